@@ -1,0 +1,6 @@
+pub mod Pick
+pub mod Over
+pub mod Gather
+pub mod Find
+pub mod Scan
+pub mod Among

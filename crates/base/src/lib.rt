@@ -1,0 +1,1 @@
+// No code: the definitions that every crate's contracts and theorems share, and their laws.

@@ -1,0 +1,88 @@
+-- Open reads. 01: "A read has 1 to 8 keys, opens with no acknowledgements and with nothing known per key."
+use mathlib.Core.Bool.{Bool, true, false, not, _&&_, _||_}
+use mathlib.Core.List.{List, []}
+use Prim.Native.Nat.{ℕ, _+_, _-_}
+use lib.Dec.{ltb, leb, eqb}
+use lib.ListN.{getD, set, replicate}
+use Rattle.base.specs.Pick.{pick}
+use Rattle.base.specs.Scan.{scan}
+use Rattle.batch.specs.Batches.{firstKeys}
+use Rattle.members.specs.Sets.{has, insert, countIn}
+use Rattle.tally.specs.declared.Tally.{Tally}
+use Rattle.tally.specs.declared.Merged.{Merged}
+use Rattle.tally.specs.declared.Read.{Read}
+use Rattle.tally.specs.declared.Reads.{Reads}
+use Rattle.tally.specs.declared.Opened.{Opened}
+use Rattle.tally.specs.declared.Replied.{Replied}
+use Rattle.tally.specs.Merge.{noBest, merge}
+
+abbrev pub nothingKnown : ℕ → Tally
+nothingKnown count = record { count = count; bests = replicate 8 noBest }
+
+abbrev pub newRead : ℕ → ℕ → List ℕ → Read
+newRead id count keys = record { id = id; acks = 0; keys = firstKeys count keys; tally = nothingKnown count }
+
+-- a place of the table that is not in use: all zero
+abbrev pub nullRead : Read
+nullRead = newRead 0 0 []
+
+abbrev pub noReads : Reads
+noReads = record { count = 0; reads = replicate 16 nullRead }
+
+-- what an index past the end of the table's array reads: its arrays are empty
+abbrev pub noRead : Read
+noRead = record { id = 0; acks = 0; keys = []; tally = record { count = 0; bests = [] } }
+
+-- the place of the open read with this id, or the count where there is none
+unfoldable pub findRead : Reads → ℕ → ℕ
+findRead rs id = scan (λ i. not (eqb (getD (rs .reads) i noRead .id) id)) 0 (rs .count)
+
+abbrev pub isOpen : Reads → ℕ → Bool
+isOpen rs id = ltb (findRead rs id) (rs .count)
+
+-- 10: "new read .. with numbers outside the above, or a read id in use"; 11: "16 reads already open"
+unfoldable pub openRead : Reads → ℕ → ℕ → List ℕ → Opened
+openRead rs id count keys =
+    pick (eqb count 0 || ltb 8 count || isOpen rs id) (record { answer = 10; reads = rs })
+    (pick (leb 16 (rs .count)) (record { answer = 11; reads = rs })
+    (record { answer = 0; reads = record { count = rs .count + 1; reads = set (rs .reads) (rs .count) (newRead id count keys) } }))
+
+-- "the read closes": the last read in use takes its place; a place that is not in use stays
+unfoldable pub closeRead : Reads → ℕ → Reads
+closeRead rs i =
+    pick (ltb 16 (rs .count) || leb (rs .count) i) rs
+    (record { count = rs .count - 1; reads = set (rs .reads) i (getD (rs .reads) (rs .count - 1) noRead) })
+
+-- a read in use, written anew
+unfoldable pub putRead : Reads → ℕ → Read → Reads
+putRead rs i r = pick (ltb 16 (rs .count) || leb (rs .count) i) rs (record { count = rs .count; reads = set (rs .reads) i r })
+
+abbrev pub withTally : Read → Tally → Read
+withTally r t = record { id = r .id; acks = r .acks; keys = r .keys; tally = t }
+
+abbrev pub withAck : Read → ℕ → Read
+withAck r peer = record { id = r .id; acks = insert (r .acks) peer; keys = r .keys; tally = r .tally }
+
+abbrev pub smaller : ℕ → ℕ → ℕ
+smaller a b = pick (ltb a b) a b
+
+abbrev pub stays : ℕ → Read → Replied
+stays answer r = record { answer = answer; closes = false; answers = 0; read = r }
+
+-- "A reply marked from the leader replaces the list and answers at once, for as many keys as both lists have."
+abbrev pub replaced : Read → Tally → Replied
+replaced r reply = record { answer = 0; closes = true; answers = smaller (r .tally .count) (reply .count); read = withTally r reply }
+
+-- the merge is done: "the sender is not acknowledged" on a conflict; else it is, and a quorum answers
+abbrev pub counted : ℕ → ℕ → Read → Merged → Replied
+counted quorum peer r m =
+    pick (not (eqb (m .answer) 0)) (stays (m .answer) (withTally r (m .tally)))
+    (let next = withAck (withTally r (m .tally)) peer in
+    record { answer = 0; closes = leb quorum (countIn (next .acks)); answers = m .tally .count; read = next })
+
+-- one reply to one open read; "A member already acknowledged is ignored."
+unfoldable pub replyTo : ℕ → ℕ → Bool → Tally → Read → Replied
+replyTo quorum peer fromLeader reply r =
+    pick fromLeader (replaced r reply)
+    (pick (has (r .acks) peer) (stays 0 r)
+    (counted quorum peer r (merge (r .tally) reply)))
