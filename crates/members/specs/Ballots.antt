@@ -23,7 +23,7 @@ ballotAbove max id = (max / 256 + 1) * 256 + id + 1
 abbrev pub nextBallot : ℕ → ℕ → NextBallot
 nextBallot max id = pick (ltb 254 id || eqb (max / 256) 72057594037927935) Spent (Ballot (ballotAbove max id))
 
--- 01's answer for each case, and the ballot where there is one
+-- 01's answer number for each case
 abbrev pub nextAnswer : NextBallot → ℕ
 nextAnswer (Ballot b) = 0
 nextAnswer Spent = 8

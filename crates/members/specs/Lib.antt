@@ -1,3 +1,5 @@
 pub mod Sets
 pub mod Groups
 pub mod Ballots
+pub mod Counting
+pub mod Laws

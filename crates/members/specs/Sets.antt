@@ -8,7 +8,7 @@ use Rattle.base.specs.Pick.{pick}
 unfoldable pub has : ℕ → ℕ → Bool
 has set m = leb m 8 && eqb (set / 2 ^ m % 2) 1
 
--- the set with m put in; a number that is no set (above 511), and a set that has m, stay
+-- the set with m put in; a number that is no set (above 511) stays, and so does a set where m is no member (above 8) or is in it
 unfoldable pub insert : ℕ → ℕ → ℕ
 insert set m = pick (ltb 511 set || ltb 8 m || has set m) set (set + 2 ^ m)
 
@@ -25,6 +25,6 @@ count (suc n) f = count n f + one (f n)
 unfoldable pub countIn : ℕ → ℕ
 countIn set = count 9 (has set)
 
--- no member at or past n is in the set
+-- no bit at or past n is 1: the set has no member outside a group of n
 abbrev pub fitsGroup : ℕ → ℕ → Bool
 fitsGroup set n = ltb set (2 ^ n)

@@ -1,4 +1,5 @@
 use borrow.Author.Needs.{needs}
+use Rattle.members.specs.Laws.{count-sum}
 use Rattle.members.proofs.count.Statement.{statement}
 use Rattle.members.proofs.count.Tie as tie
 
@@ -27,7 +28,7 @@ add-result-8 : tie.Need-add-result-8
 add-result-8 c = search needs
 
 returns : tie.Need-returns
-returns c = ?
+returns c = count-sum (c .args .set)
 
 pub count-spec : {M : Type 1} → statement M
 count-spec =

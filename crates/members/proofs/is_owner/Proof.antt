@@ -1,9 +1,13 @@
+use mathlib.Core.Path.{sym}
+use Prim.Native.Nat.{_+_, _%_}
+use native.Mathlib.Omega.{arith}
+use borrow.Author.Tests.{ne-eqb}
 use borrow.Author.Needs.{needs}
 use Rattle.members.proofs.is_owner.Statement.{statement}
 use Rattle.members.proofs.is_owner.Tie as tie
 
 returns : tie.Need-returns
-returns c = ?
+returns c = let a = c .before .args in sym (ne-eqb (a .ballot % 256) (a .member + 1) (λ e. omega arith))
 
 add-result : tie.Need-add-result
 add-result c = search needs

@@ -1,0 +1,3 @@
+pub mod Scalars
+pub mod Bars
+pub mod Decide

@@ -1,0 +1,96 @@
+-- The replica's numbers: what is read off them, and each way in which a call changes them.
+use mathlib.Core.Bool.{Bool, not, _&&_}
+use Prim.Native.Nat.{ℕ, _/_, _%_}
+use lib.Dec.{ltb, eqb}
+use Rattle.base.specs.Pick.{pick}
+use Rattle.members.specs.Groups.{quorumOf}
+use Rattle.decide.specs.declared.Scalars.{Scalars}
+
+abbrev pub nobody : ℕ
+nobody = 255
+
+-- 2^64 - 1: the bar of a member of which nothing is known
+abbrev pub unknownBar : ℕ
+unknownBar = 18446744073709551615
+
+-- is_leader()
+abbrev pub leads : Scalars → Bool
+leads sc = eqb (sc .leader) (sc .id)
+
+abbrev pub isMember : Scalars → ℕ → Bool
+isMember sc m = ltb m (sc .group)
+
+-- 2: "sender not a member; or sender is self"
+abbrev pub isPeer : Scalars → ℕ → Bool
+isPeer sc m = isMember sc m && not (eqb m (sc .id))
+
+abbrev pub quorum : Scalars → ℕ
+quorum sc = quorumOf (sc .group)
+
+-- 01: "Options: urgent commit notice; step-up disallowed."
+abbrev pub urgent : Scalars → Bool
+urgent sc = eqb (sc .options % 2) 1
+
+abbrev pub disallowed : Scalars → Bool
+disallowed sc = eqb (sc .options / 2 % 2) 1
+
+-- the two halves of what changes: who leads and the three ballots; the three bars, wal_offset and peer_accept_max
+abbrev pub withBallots : Scalars → ℕ → ℕ → ℕ → ℕ → Scalars
+withBallots sc leader sent prepared seen =
+    record {
+      id = sc .id;
+      group = sc .group;
+      start = sc .start;
+      options = sc .options;
+      leader = leader;
+      «bal_prep_sent» = sent;
+      «bal_prepared» = prepared;
+      «bal_max_seen» = seen;
+      «accept_bar» = sc .«accept_bar»;
+      «commit_bar» = sc .«commit_bar»;
+      «exec_bar» = sc .«exec_bar»;
+      «wal_offset» = sc .«wal_offset»;
+      «peer_accept_max» = sc .«peer_accept_max»;
+    }
+
+abbrev pub withNumbers : Scalars → ℕ → ℕ → ℕ → ℕ → ℕ → Scalars
+withNumbers sc accept commit exec offset peerMax =
+    record {
+      id = sc .id;
+      group = sc .group;
+      start = sc .start;
+      options = sc .options;
+      leader = sc .leader;
+      «bal_prep_sent» = sc .«bal_prep_sent»;
+      «bal_prepared» = sc .«bal_prepared»;
+      «bal_max_seen» = sc .«bal_max_seen»;
+      «accept_bar» = accept;
+      «commit_bar» = commit;
+      «exec_bar» = exec;
+      «wal_offset» = offset;
+      «peer_accept_max» = peerMax;
+    }
+
+-- check_leader "acts only on a larger ballot": the believed leader and the largest ballot seen
+abbrev pub followed : Scalars → ℕ → ℕ → Scalars
+followed sc peer ballot = pick (ltb (sc .«bal_max_seen») ballot) (withBallots sc peer (sc .«bal_prep_sent») (sc .«bal_prepared») ballot) sc
+
+-- "a leader first reports that it is none"
+abbrev pub stepsDown : Scalars → ℕ → Bool
+stepsDown sc ballot = ltb (sc .«bal_max_seen») ballot && leads sc
+
+abbrev pub withPrepared : Scalars → ℕ → Scalars
+withPrepared sc ballot = withBallots sc (sc .leader) (sc .«bal_prep_sent») ballot (sc .«bal_max_seen»)
+
+abbrev pub withBars : Scalars → ℕ → ℕ → ℕ → Scalars
+withBars sc accept commit exec = withNumbers sc accept commit exec (sc .«wal_offset») (sc .«peer_accept_max»)
+
+abbrev pub withOffset : Scalars → ℕ → Scalars
+withOffset sc offset = withNumbers sc (sc .«accept_bar») (sc .«commit_bar») (sc .«exec_bar») offset (sc .«peer_accept_max»)
+
+abbrev pub withPeerMax : Scalars → ℕ → Scalars
+withPeerMax sc bar = withNumbers sc (sc .«accept_bar») (sc .«commit_bar») (sc .«exec_bar») (sc .«wal_offset») bar
+
+-- become_a_leader: self leads at a ballot of its own that is not prepared yet, and knows no member's accept bar
+abbrev pub steppedUp : Scalars → ℕ → Scalars
+steppedUp sc ballot = withPeerMax (withBallots sc (sc .id) ballot 0 ballot) unknownBar

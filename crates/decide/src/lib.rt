@@ -1,0 +1,38 @@
+// What a call that touches one slot decides, from the replica's scalars and that slot: small values in, small values out.
+ghost use mathlib.Core.Path.{_≡_};
+use actions::Says;
+use slots::Slot;
+
+// The replica's numbers. options: 1 urgent commit notice + 2 step-up disallowed; leader: 255 = none.
+pub struct Scalars {
+    pub id: u64,
+    pub group: u64,
+    pub start: u64,
+    pub options: u64,
+    pub leader: u64,
+    pub bal_prep_sent: u64,
+    pub bal_prepared: u64,
+    pub bal_max_seen: u64,
+    pub accept_bar: u64,
+    pub commit_bar: u64,
+    pub exec_bar: u64,
+    pub wal_offset: u64,
+    pub peer_accept_max: u64,
+}
+
+// The peer accept table: a bar for each member, and whether self has its entry yet.
+pub struct PeerBars {
+    pub own: bool,
+    pub bars: [u64; 9],
+}
+
+// What a call decides: the answer; the scalars and the slot after it; what it says, with a batch's keys beside it;
+// and whether the slot's batch goes into the key table.
+pub struct Decided {
+    pub answer: u64,
+    pub noted: bool,
+    pub sc: Scalars,
+    pub slot: Slot,
+    pub says: Says,
+    pub keys: [u64; 8],
+}

@@ -1,0 +1,136 @@
+-- 01, "Both sides of each edge": the cases marked P, as one list of runs with one claim about all of them, closed by computation.
+use mathlib.Core.Bool.{Bool, true, false, _&&_, _||_, not}
+use mathlib.Core.List.{List, [], _∷_, _++_}
+use Prim.Native.Nat.{ℕ}
+use lib.Dec.{T, eqb}
+use lib.ListN.{getD, replicate, length}
+use Rattle.base.specs.Pick.{pick}
+use Rattle.base.specs.Scan.{scan}
+use Rattle.base.specs.Gather.{gather}
+use Rattle.members.specs.Sets.{has, insert, count, countIn}
+use Rattle.batch.specs.declared.Batch.{Batch}
+use Rattle.batch.specs.Batches.{emptyBatch, makeBatch, sameList}
+use Rattle.batch.specs.Keys.{noteKey, noteKeys, newKeys, overfull}
+use Rattle.tally.specs.declared.Held.{Held}
+use Rattle.tally.specs.declared.Best.the-variants.{Value}
+use Rattle.tally.specs.declared.Tally.{Tally}
+use Rattle.tally.specs.Merge.{noBest, bestNumbers, bestAt, merge}
+use Rattle.tally.specs.Open.{noRead, findRead, openRead, closeRead, putRead, replyTo}
+use Rattle.actions.specs.Actions.{flat, numbersOf}
+use Rattle.slots.specs.Slots.{noVote, fitSlot}
+use Rattle.decide.specs.Bars.{notAbove, leastMajority, withBar, withFallen}
+use Rattle.decide.specs.Decide.{decideAccept, decideAcceptReply, decideVote, decideCount, decidePromised, decideAccepted, decideOffer}
+use Rattle.replica.specs.declared.Replica.{Replica}
+use Rattle.replica.specs.declared.Reply.{Reply}
+use Rattle.replica.specs.declared.Entry.the-variants.{PrepareBal, AcceptData, CommitSlot}
+use Rattle.replica.specs.Record.{Outcome, newReplica, slotAt, grown, noting, settled}
+use Rattle.replica.specs.Fit.{fit, fitScalars, fitSlots, fitReads}
+use Rattle.replica.specs.Messages.{prepareOn, prepareStep, lastUsed, appended, countedOn, votedOn, repliedOn, replyOn, prepareReplyStep, acceptStep, acceptReplyStep}
+use Rattle.replica.specs.Leadership.{firstOpen, lastOpen, leadOn, stepUp, timeoutStep, markOn, markStop, commitNoticeStep}
+use Rattle.replica.specs.Durability.{preparedDone, movedAccept, acceptedDone, passOn, passStop, committedDone, loggedOn, loggedStep}
+use Rattle.replica.specs.Quorumread.{openReadStep, repliedStep, readReplyStep}
+use Rattle.replica.specs.Added.{offerStep, movedExec, executedStep}
+use Rattle.replica.specs.Step.{Call, callPrepare, callPrepareReply, callAcceptReply, callTimeout, callLogged, callOpenRead, callReadReply, step}
+
+-- what is looked at after a call: the slots present, the largest ballot seen, the believed leader, the status of slot 0,
+-- and what the first open read knows of its first key
+abbrev pub look : Replica → List ℕ
+look r =
+    r .window .len ∷ r .sc .«bal_max_seen» ∷ r .sc .leader ∷ slotAt (r .window) 0 .status
+    ∷ bestNumbers (bestAt (getD (r .reads .reads) 0 noRead .tally) 0) .0
+    ∷ bestNumbers (bestAt (getD (r .reads .reads) 0 noRead .tally) 0) .1
+    ∷ bestNumbers (bestAt (getD (r .reads .reads) 0 noRead .tally) 0) .2
+    ∷ []
+
+-- one call, and what is to come of it: the answer, what is seen after it, the actions' numbers
+pub record Turn : Type 0 where
+  pub call : Call
+  pub answer : ℕ
+  pub seen : List ℕ
+  pub numbers : List ℕ
+
+abbrev pub turn : Call → ℕ → List ℕ → List ℕ → Turn
+turn c answer seen numbers = record { call = c; answer = answer; seen = seen; numbers = numbers }
+
+unfoldable pub rightTurn : Outcome → Turn → Bool
+rightTurn o t = eqb (o .answer) (t .answer) && (sameList (look (o .replica)) (t .seen) && sameList (flat (o .actions)) (t .numbers))
+
+-- each turn of a run, one after the other
+unfoldable pub rightRun : Replica → List Turn → Bool
+rightRun r [] = true
+rightRun r (t ∷ ts) = rightTurn (step r 3456 (t .call)) t && rightRun (step r 3456 (t .call) .replica) ts
+
+-- a run from a new replica
+pub record Run : Type 0 where
+  pub id : ℕ
+  pub group : ℕ
+  pub turns : List Turn
+
+abbrev pub run : ℕ → ℕ → List Turn → Run
+run id group turns = record { id = id; group = group; turns = turns }
+
+unfoldable pub rightRuns : List Run → Bool
+rightRuns [] = true
+rightRuns (k ∷ ks) = rightRun (newReplica (k .id) (k .group) 0 0 .replica) (k .turns) && rightRuns ks
+
+-- what is seen of a replica with no reads and with one
+abbrev pub plain : ℕ → ℕ → ℕ → ℕ → List ℕ
+plain len seen leader status = len ∷ seen ∷ leader ∷ status ∷ 0 ∷ 0 ∷ 0 ∷ []
+
+abbrev pub numbers : ℕ → ℕ → ℕ → ℕ → ℕ → ℕ → List ℕ
+numbers kind member slot trigger endprep ballot = kind ∷ member ∷ slot ∷ trigger ∷ endprep ∷ ballot ∷ replicate 12 0
+
+abbrev pub promises : ℕ → ℕ → List ℕ
+promises slot ballot = numbers 1 0 slot 0 0 ballot
+
+abbrev pub prepare : ℕ → ℕ → ℕ → ℕ → ℕ → ℕ → ℕ → List ℕ → Turn
+prepare peer trigger ballot answer len seen leader acts = turn (callPrepare peer trigger ballot) answer (plain len seen leader 0) acts
+
+abbrev pub reply : ℕ → Reply
+reply ballot = record { slot = 0; trigger = 0; endprep = 0; ballot = ballot; voted = false; vote = noVote; bar = 0 }
+
+abbrev pub oneKey : Tally
+oneKey = record { count = 1; bests = record { best = Value (record { slot = 7; value = 9 }) } ∷ replicate 7 noBest }
+
+-- group 3, fresh, id 2, start 0
+unfoldable pub marked : List Run
+marked =
+    -- "Prepare from 0, ballot 257, trigger 2: three slots, one PrepareBal, slot 2. The same again: one PrepareBal again."
+    -- "Then Prepare from 1, ballot 258, acts; Prepare from 0 with 257 after it changes nothing." "64 with 257 after 258 is 0."
+    run 2 3
+    (prepare 0 2 257 0 3 257 0 (promises 2 257)
+    ∷ prepare 0 2 257 0 3 257 0 (promises 2 257)
+    ∷ prepare 1 2 258 0 3 258 1 (promises 2 258)
+    ∷ prepare 0 2 257 0 3 258 1 []
+    ∷ prepare 0 64 257 0 3 258 1 []
+    -- "Timeout from 1 while 0 is believed leader: 0, unchanged": here from 0 while 1 is believed leader
+    ∷ turn (callTimeout 0) 0 (plain 3 258 1 0) []
+    ∷ [])
+    -- "Trigger 63 acts; 64 is 5"
+    ∷ run 2 3 (prepare 0 63 257 0 64 257 0 (promises 63 257) ∷ [])
+    ∷ run 2 3 (prepare 0 64 257 5 0 0 255 [] ∷ [])
+    -- "Ballot 258 from 0: 3. Sender 2 or 3: 2."
+    ∷ run 2 3 (prepare 0 2 258 3 0 0 255 [] ∷ prepare 2 2 259 2 0 0 255 [] ∷ prepare 3 2 260 2 0 0 255 [] ∷ [])
+    -- "Timeout from 1 while 0 is believed leader: 0, unchanged."
+    ∷ run 2 3 (prepare 0 2 257 0 3 257 0 (promises 2 257) ∷ turn (callTimeout 1) 0 (plain 3 257 0 0) [] ∷ [])
+    -- "Group 5: the third different AcceptReply commits; a repeated second does not." Member 0 leads after its own reply and those of 1 and 2
+    ∷ run 0 5
+    (turn (callTimeout 0) 0 (plain 1 257 0 1) (numbers 10 0 0 0 0 0 ++ numbers 9 255 0 0 0 0 ++ promises 0 257 ++ numbers 4 255 0 0 0 257)
+    ∷ turn (callPrepareReply 1 (reply 257)) 0 (plain 1 257 0 1) []
+    ∷ turn (callPrepareReply 2 (reply 257)) 0 (plain 1 257 0 1) []
+    ∷ turn (callLogged (record { entry = PrepareBal; slot = 0; size = 40 })) 0 (plain 1 257 0 2) (numbers 2 0 0 0 0 257 ++ numbers 6 255 0 0 0 257)
+    ∷ turn (callAcceptReply 1 0 257) 0 (plain 1 257 0 2) []
+    ∷ turn (callAcceptReply 2 0 257) 0 (plain 1 257 0 2) []
+    ∷ turn (callAcceptReply 2 0 257) 0 (plain 1 257 0 2) []
+    ∷ turn (callAcceptReply 3 0 257) 0 (plain 1 257 0 3) (numbers 3 0 0 0 0 0)
+    ∷ [])
+    -- "Slot and value into an empty tally holds the slot alone."
+    ∷ run 2 3
+    (turn (callOpenRead 5 1 (4 ∷ replicate 7 0)) 0 (plain 0 0 255 0) []
+    ∷ turn (callReadReply 0 5 false oneKey) 0 (0 ∷ 0 ∷ 255 ∷ 0 ∷ 1 ∷ 7 ∷ 0 ∷ []) []
+    ∷ [])
+    ∷ []
+
+pub marked-hold : T (rightRuns marked)
+unfolding rightRuns marked rightRun rightTurn newReplica fit fitScalars fitSlots fitReads fitSlot grown noting settled prepareOn prepareStep lastUsed appended countedOn votedOn repliedOn replyOn prepareReplyStep acceptStep acceptReplyStep firstOpen lastOpen leadOn stepUp timeoutStep markOn markStop commitNoticeStep preparedDone movedAccept acceptedDone passOn passStop committedDone loggedOn loggedStep openReadStep repliedStep readReplyStep offerStep movedExec executedStep decideAccept decideAcceptReply decideVote decideCount decidePromised decideAccepted decideOffer notAbove leastMajority withBar withFallen has insert count countIn makeBatch noteKey noteKeys newKeys overfull merge findRead openRead closeRead putRead replyTo scan
+marked-hold = tt

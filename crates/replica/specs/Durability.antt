@@ -1,0 +1,117 @@
+-- 002, durability.rs: log completions.
+use mathlib.Core.Bool.{Bool, true, false, not, _&&_, _||_}
+use mathlib.Core.List.{List, [], _∷_, _++_}
+use Prim.Native.Nat.{ℕ, _+_}
+use lib.Dec.{ltb, leb, eqb}
+use Rattle.base.specs.Pick.{pick}
+use Rattle.base.specs.Gather.{gather}
+use Rattle.base.specs.Scan.{scan}
+use Rattle.actions.specs.declared.Action.the-variants.{CommitNotice, Execute}
+use Rattle.actions.specs.Actions.{Act, act, bare}
+use Rattle.slots.specs.declared.Slot.{Slot}
+use Rattle.slots.specs.Slots.{accepting, committed, loggedSlot, passedSlot}
+use Rattle.decide.specs.declared.Scalars.{Scalars}
+use Rattle.decide.specs.Scalars.{leads, urgent, withBars, withOffset}
+use Rattle.decide.specs.Decide.{sentVote, decidePromised, decideAccepted}
+use Rattle.replica.specs.declared.Window.{Window}
+use Rattle.replica.specs.declared.Replica.{Replica}
+use Rattle.replica.specs.declared.Reply.{Reply}
+use Rattle.replica.specs.declared.Entry.{Entry}
+use Rattle.replica.specs.declared.Entry.the-variants.{PrepareBal, AcceptData, CommitSlot}
+use Rattle.replica.specs.declared.Done.{Done}
+use Rattle.replica.specs.Record.{Outcome, kept, settled, withWindow, place, number, logEnd, slotAt, putSlot, sweep}
+use Rattle.replica.specs.Fit.{ready}
+use Rattle.replica.specs.Messages.{orKept, replyOn}
+
+-- 01's numbers of the entries
+abbrev pub entryNumber : Entry → ℕ
+entryNumber PrepareBal = 1
+entryNumber AcceptData = 2
+entryNumber CommitSlot = 3
+
+-- "on leader, finishing the logging of a PrepareBal entry is equivalent to receiving a Prepare reply from myself"
+abbrev pub ownReply : Scalars → Slot → ℕ → Reply
+ownReply sc s slot =
+    record {
+      slot = slot;
+      trigger = s .leader .trigger;
+      endprep = s .leader .endprep;
+      ballot = s .ballot;
+      voted = ltb 0 (s .vote .ballot);
+      vote = sentVote s;
+      bar = sc .«accept_bar»;
+    }
+
+-- the slot s stands at place i: the leader answers itself for slots up to its endprep, a follower answers the source
+unfoldable pub preparedDone : Replica → ℕ → ℕ → Slot → Outcome
+preparedDone r i slot s =
+    pick (leads (r .sc))
+    (pick (s .leader .present && leb slot (s .leader .endprep)) (replyOn r (r .sc .id) (ownReply (r .sc) s slot)) (kept 0 r))
+    (settled r (r .window) i slot (decidePromised (r .sc) s slot))
+
+-- "update index of the first non-accepting instance", where the slot logged is at accept_bar
+unfoldable pub movedAccept : Replica → ℕ → Replica
+movedAccept r slot =
+    pick (not (eqb slot (r .sc .«accept_bar»))) r
+    (withWindow r
+    (withBars (r .sc)
+    (number (r .sc) (scan (λ i. leb accepting (slotAt (r .window) i .status)) (place (r .sc) (r .sc .«accept_bar»)) (r .window .len)))
+    (r .sc .«commit_bar») (r .sc .«exec_bar»))
+    (r .window))
+
+abbrev pub thenMoved : ℕ → Outcome → Outcome
+thenMoved slot o =
+    pick (not (eqb (o .answer) 0)) o (record { answer = 0; replica = movedAccept (o .replica) slot; actions = o .actions })
+
+unfoldable pub acceptedDone : Replica → ℕ → ℕ → Slot → Outcome
+acceptedDone r i slot s = thenMoved slot (settled r (r .window) i slot (decideAccepted (r .sc) s slot))
+
+-- "One Execute action per batch"; an empty batch is executed at once
+abbrev pub passActs : ℕ → Slot → List Act
+passActs slot s =
+    pick (eqb (s .batch .id) 0 || not (eqb (s .status) committed)) []
+    (act (Execute (record { slot = slot; batch = s .batch .id; count = s .batch .count })) (s .batch .keys) ∷ [])
+
+-- "if I'm the leader and urgent CommitNotice is on", once the end of the log is committed
+abbrev pub noticeActs : Scalars → ℕ → ℕ → List Act
+noticeActs sc bar end =
+    pick (eqb bar end && (leads sc && (ltb 0 (sc .«bal_prepared») && (eqb (sc .«bal_prepared») (sc .«bal_max_seen») && urgent sc))))
+    (bare (CommitNotice (record { ballot = sc .«bal_max_seen»; bar = bar })) ∷ [])
+    []
+
+-- "update index of the first non-committed instance": commit_bar walks from place `from` to `stop`
+unfoldable pub passOn : Replica → ℕ → ℕ → Outcome
+passOn r from stop =
+    record {
+      answer = 0;
+      replica = withWindow r (withBars (r .sc) (r .sc .«accept_bar») (number (r .sc) stop) (r .sc .«exec_bar»)) (sweep (λ i s. passedSlot s) from stop (r .window));
+      actions =
+          gather (λ i. passActs (number (r .sc) i) (slotAt (r .window) i)) from stop
+          ++ pick (eqb from stop) [] (noticeActs (r .sc) (number (r .sc) stop) (logEnd r));
+    }
+
+unfoldable pub passStop : Replica → ℕ
+passStop r =
+    scan (λ i. leb committed (slotAt (r .window) i .status)) (place (r .sc) (r .sc .«commit_bar»)) (place (r .sc) (r .sc .«accept_bar»))
+
+unfoldable pub committedDone : Replica → ℕ → Outcome
+committedDone r slot = pick (not (eqb slot (r .sc .«commit_bar»))) (kept 0 r) (passOn r (place (r .sc) (r .sc .«commit_bar»)) (passStop r))
+
+abbrev pub doneOn : Replica → ℕ → ℕ → Entry → Outcome
+doneOn r i slot PrepareBal = preparedDone r i slot (slotAt (r .window) i)
+doneOn r i slot AcceptData = acceptedDone r i slot (slotAt (r .window) i)
+doneOn r i slot CommitSlot = committedDone r slot
+
+-- "update first wal_offset of slot, then update self.wal_offset"
+unfoldable pub loggedOn : Replica → ℕ → ℕ → Replica
+loggedOn r i size =
+    withWindow r (withOffset (r .sc) size) (putSlot (r .window) i (loggedSlot (r .sc .«wal_offset») (slotAt (r .window) i)))
+
+-- "A completion below start changes nothing, not even wal_offset"; a refusal of the entry's handler refuses the whole call
+unfoldable pub loggedStep : Replica → ℕ → Done → Outcome
+loggedStep r room d =
+    pick (not (ready r room)) (kept 1 r)
+    (pick (ltb (d .slot) (r .sc .start)) (kept 0 r)
+    (pick (leb (logEnd r) (d .slot)) (kept 4 r)
+    (pick (ltb (d .size) (r .sc .«wal_offset»)) (kept 6 r)
+    (orKept r (doneOn (loggedOn r (place (r .sc) (d .slot)) (d .size)) (place (r .sc) (d .slot)) (d .slot) (d .entry))))))

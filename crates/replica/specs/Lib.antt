@@ -1,0 +1,9 @@
+pub mod Record
+pub mod Fit
+pub mod Messages
+pub mod Leadership
+pub mod Durability
+pub mod Quorumread
+pub mod Added
+pub mod Step
+pub mod Cases

@@ -1,0 +1,187 @@
+-- 000, messages.rs: Prepare, PrepareReply, Accept, AcceptReply. Each test stands in 01's order of answers.
+use mathlib.Core.Bool.{Bool, true, false, not, _&&_, _||_}
+use mathlib.Core.List.{List, [], _∷_, _++_}
+use Prim.Native.Nat.{ℕ, _+_, _-_}
+use lib.Dec.{ltb, leb, eqb}
+use Rattle.base.specs.Pick.{pick, larger}
+use Rattle.base.specs.Over.{over}
+use Rattle.base.specs.Gather.{gather}
+use Rattle.base.specs.Find.{any, last}
+use Rattle.members.specs.Ballots.{owns}
+use Rattle.batch.specs.declared.Batch.{Batch}
+use Rattle.batch.specs.Batches.{isBatch, makeBatch}
+use Rattle.actions.specs.declared.Action.the-variants.{PrepareBal, AcceptData, Accept, StatusDown}
+use Rattle.actions.specs.Actions.{Act, act, bare}
+use Rattle.slots.specs.declared.Vote.{Vote}
+use Rattle.slots.specs.declared.ReplicaBook.{ReplicaBook}
+use Rattle.slots.specs.declared.Slot.{Slot}
+use Rattle.slots.specs.Slots.{preparing, newBook, noSlot, preparedSlot, appendedSlot, enteredSlot}
+use Rattle.decide.specs.declared.Scalars.{Scalars}
+use Rattle.decide.specs.declared.Decided.{Decided}
+use Rattle.decide.specs.Scalars.{leads, isPeer, followed, stepsDown}
+use Rattle.decide.specs.Bars.{withBar, withFallen}
+use Rattle.decide.specs.Decide.{decideAccept, decideAcceptReply, awaitsPrepare, decideVote, isCounted, decideCount, proposal}
+use Rattle.replica.specs.declared.Window.{Window}
+use Rattle.replica.specs.declared.Replica.{Replica}
+use Rattle.replica.specs.declared.Reply.{Reply}
+use Rattle.replica.specs.Record.{Outcome, kept, noting, settled, withWindow, place, number, logEnd, slotAt, putSlot, grown, sweep}
+use Rattle.replica.specs.Fit.{ready}
+
+-- a batch as a message names it, its unused key numbers dropped
+abbrev pub clean : Batch → Batch
+clean b = makeBatch (b .id) (b .count) (b .keys) .batch
+
+abbrev pub promise : ℕ → ℕ → Act
+promise slot ballot = bare (PrepareBal (record { slot = slot; ballot = ballot }))
+
+-- check_leader: "a leader first reports that it is none"
+abbrev pub downActs : Scalars → ℕ → List Act
+downActs sc ballot = pick (stepsDown sc ballot) (bare StatusDown ∷ []) []
+
+-- ── Prepare: "covers trigger to the larger of trigger and the last non-null slot, and puts even committed slots back to Preparing" ──
+unfoldable pub lastUsed : Window → ℕ
+lastUsed w = last (λ i. ltb 0 (slotAt w i .status)) 0 (w .len)
+
+abbrev pub prepareTop : Window → ℕ → ℕ
+prepareTop w from = larger from (lastUsed w)
+
+abbrev pub prepareBook : Scalars → Window → ℕ → ℕ → ReplicaBook
+prepareBook sc w from peer = record { present = true; source = peer; trigger = number sc from; endprep = number sc (prepareTop w from) }
+
+-- the window w has the slot at place `from`; 6: "debug_assert!(inst.bal <= ballot)"
+unfoldable pub prepareOn : Replica → Window → ℕ → ℕ → ℕ → Outcome
+prepareOn r w from peer ballot =
+    pick (any (λ i. ltb ballot (slotAt w i .ballot)) from (prepareTop w from + 1)) (kept 6 r)
+    (record {
+      answer = 0;
+      replica =
+          withWindow r (followed (r .sc) peer ballot)
+          (sweep (λ i s. preparedSlot ballot (prepareBook (r .sc) w from peer) s) from (prepareTop w from + 1) w);
+      actions = downActs (r .sc) ballot ++ gather (λ i. promise (number (r .sc) i) ballot ∷ []) from (prepareTop w from + 1);
+    })
+
+unfoldable pub prepareStep : Replica → ℕ → ℕ → ℕ → ℕ → Outcome
+prepareStep r room peer trigger ballot =
+    pick (not (ready r room)) (kept 1 r)
+    (pick (not (isPeer (r .sc) peer)) (kept 2 r)
+    (pick (not (owns ballot peer)) (kept 3 r)
+    (pick (ltb trigger (r .sc .start)) (kept 0 r)
+    (pick (ltb ballot (r .sc .«bal_max_seen»)) (kept 0 r)
+    (pick (leb (r .sc .start + 64) trigger) (kept 5 r)
+    (prepareOn r (grown (r .window) (place (r .sc) trigger + 1)) (place (r .sc) trigger) peer ballot))))))
+
+-- ── PrepareReply ──
+-- "past the log end it appends slots, and logs them"
+unfoldable pub appended : Replica → ℕ → ℕ → Window
+appended r j i =
+    record {
+      len = larger (r .window .len) (i + 1);
+      slots = over (λ k s. appendedSlot (r .sc .«bal_prep_sent») (newBook (number (r .sc) j) (slotAt (r .window) j .leader .endprep))) noSlot (r .window .len) (i + 1) (r .window .slots);
+    }
+
+abbrev pub appendActs : Replica → ℕ → List Act
+appendActs r i = gather (λ k. promise (number (r .sc) k) (r .sc .«bal_prep_sent») ∷ []) (r .window .len) (i + 1)
+
+-- "At quorum every Preparing slot from trigger on gives AcceptData, then Accept."
+abbrev pub enterActs : ℕ → ℕ → Slot → List Act
+enterActs slot ballot s =
+    pick (eqb (s .status) preparing)
+    (act (AcceptData (proposal slot ballot (s .batch))) (s .batch .keys) ∷ act (Accept (proposal slot ballot (s .batch))) (s .batch .keys) ∷ [])
+    []
+
+-- the replica with a member's accept bar in its table
+abbrev pub tabled : Replica → ℕ → ℕ → Replica
+tabled r peer bar =
+    record { sc = withFallen (r .sc) (r .bars) peer bar; bars = withBar (r .sc) (r .bars) peer bar; window = r .window; keys = r .keys; reads = r .reads }
+
+-- counted at the trigger slot, at place j of the window w: below the quorum only that is kept; at quorum the slots from there on enter Accept
+unfoldable pub countedOn : Replica → Window → ℕ → ℕ → List Act → Decided → Outcome
+countedOn r w j ballot acts d =
+    pick (not (eqb (d .answer) 0)) (kept (d .answer) r)
+    (pick (not (isCounted (d .sc) (d .slot))) (record { answer = 0; replica = withWindow r (d .sc) (putSlot w j (d .slot)); actions = acts })
+    (record {
+      answer = 0;
+      replica = withWindow r (d .sc) (sweep (λ i s. enteredSlot s) j (w .len) (putSlot w j (d .slot)));
+      actions = acts ++ gather (λ i. enterActs (number (r .sc) i) ballot (slotAt (putSlot w j (d .slot)) i)) j (w .len);
+    }))
+
+-- the vote is decided for the slot at place i; "a member counts on its reply for its own endprep slot"
+unfoldable pub votedOn : Replica → Window → ℕ → ℕ → ℕ → Reply → List Act → Decided → Outcome
+votedOn r w i j peer m acts d =
+    pick (not (eqb (d .answer) 0)) (kept (d .answer) r)
+    (noting r (d .noted) (m .slot) (d .slot .batch)
+    (pick (not (eqb (m .slot) (m .endprep))) (record { answer = 0; replica = withWindow r (d .sc) (putSlot w i (d .slot)); actions = acts })
+    (countedOn r (putSlot w i (d .slot)) j (m .ballot) acts (decideCount (r .sc) (slotAt (putSlot w i (d .slot)) j) peer (m .ballot)))))
+
+-- the peer accept table is updated and the slot is present, at place i of the window w: "ignore spurious duplications and outdated replies"
+unfoldable pub repliedOn : Replica → Window → ℕ → ℕ → ℕ → Reply → List Act → Outcome
+repliedOn r w i j peer m acts =
+    pick (not (awaitsPrepare (slotAt w i) (m .ballot))) (record { answer = 0; replica = withWindow r (r .sc) w; actions = acts })
+    (votedOn r w i j peer m acts (decideVote (r .sc) (slotAt w i) (m .ballot) (m .voted) (m .vote)))
+
+-- 6: the slot lies from trigger to endprep, and the trigger in the log
+abbrev pub inRange : Replica → Reply → Bool
+inRange r m = leb (m .trigger) (m .slot) && (leb (m .slot) (m .endprep) && (leb (r .sc .start) (m .trigger) && ltb (m .trigger) (logEnd r)))
+
+-- a refusal keeps the replica as it was before the peer accept table was updated
+abbrev pub orKept : Replica → Outcome → Outcome
+orKept r o = pick (eqb (o .answer) 0) o (kept (o .answer) r)
+
+-- from the test of the ballot on, as a leader's own log completion runs it too; "elsewhere it is 4 at any slot";
+-- "PrepareReply updates the peer accept table before the slot's status is looked at"
+unfoldable pub replyOn : Replica → ℕ → Reply → Outcome
+replyOn r peer m =
+    pick (not (eqb (m .ballot) (r .sc .«bal_prep_sent»))) (kept 0 r)
+    (pick (not (leads (r .sc))) (kept 4 r)
+    (pick (not (inRange r m)) (kept 6 r)
+    (pick (not (slotAt (r .window) (place (r .sc) (m .trigger)) .leader .present)) (kept 0 r)
+    (pick (leb (r .sc .start + 64) (m .slot)) (kept 5 r)
+    (orKept r
+    (repliedOn (tabled r peer (m .bar)) (appended r (place (r .sc) (m .trigger)) (place (r .sc) (m .slot))) (place (r .sc) (m .slot)) (place (r .sc) (m .trigger)) peer m
+    (appendActs r (place (r .sc) (m .slot)))))))))
+
+abbrev pub cleanReply : Reply → Reply
+cleanReply m =
+    record {
+      slot = m .slot;
+      trigger = m .trigger;
+      endprep = m .endprep;
+      ballot = m .ballot;
+      voted = m .voted;
+      vote = record { ballot = m .vote .ballot; batch = clean (m .vote .batch) };
+      bar = m .bar;
+    }
+
+unfoldable pub prepareReplyStep : Replica → ℕ → ℕ → Reply → Outcome
+prepareReplyStep r room peer m =
+    pick (not (ready r room)) (kept 1 r)
+    (pick (not (isPeer (r .sc) peer)) (kept 2 r)
+    (pick (m .voted && not (isBatch (m .vote .batch .id) (m .vote .batch .count))) (kept 10 r)
+    (pick (ltb (m .slot) (r .sc .start)) (kept 0 r)
+    (replyOn r peer (cleanReply m)))))
+
+-- ── Accept ──
+-- the window w has the slot at place i
+abbrev pub acceptOn : Replica → Window → ℕ → ℕ → ℕ → ℕ → Batch → Outcome
+acceptOn r w i peer slot ballot b = settled r w i slot (decideAccept (r .sc) (slotAt w i) peer slot ballot b)
+
+unfoldable pub acceptStep : Replica → ℕ → ℕ → ℕ → ℕ → Batch → Outcome
+acceptStep r room peer slot ballot b =
+    pick (not (ready r room)) (kept 1 r)
+    (pick (not (isPeer (r .sc) peer)) (kept 2 r)
+    (pick (not (owns ballot peer)) (kept 3 r)
+    (pick (not (isBatch (b .id) (b .count))) (kept 10 r)
+    (pick (ltb slot (r .sc .start)) (kept 0 r)
+    (pick (ltb ballot (r .sc .«bal_max_seen»)) (kept 0 r)
+    (pick (leb (r .sc .start + 64) slot) (kept 5 r)
+    (acceptOn r (grown (r .window) (place (r .sc) slot + 1)) (place (r .sc) slot) peer slot ballot (clean b))))))))
+
+-- ── AcceptReply ──
+unfoldable pub acceptReplyStep : Replica → ℕ → ℕ → ℕ → ℕ → Outcome
+acceptReplyStep r room peer slot ballot =
+    pick (not (ready r room)) (kept 1 r)
+    (pick (not (isPeer (r .sc) peer)) (kept 2 r)
+    (pick (ltb slot (r .sc .start)) (kept 0 r)
+    (pick (not (eqb ballot (r .sc .«bal_prepared»))) (kept 0 r)
+    (pick (leb (logEnd r) slot) (kept 4 r)
+    (settled r (r .window) (place (r .sc) slot) slot (decideAcceptReply (r .sc) (slotAt (r .window) (place (r .sc) slot)) peer slot ballot))))))

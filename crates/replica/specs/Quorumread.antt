@@ -1,0 +1,53 @@
+-- 003, quorumread.rs: opening a read (01's form) and a reply to one.
+use mathlib.Core.Bool.{Bool, true, false, not, _||_}
+use mathlib.Core.List.{List, [], _∷_}
+use Prim.Native.Nat.{ℕ}
+use lib.Dec.{ltb, leb, eqb}
+use lib.ListN.{getD}
+use Rattle.base.specs.Pick.{pick}
+use Rattle.base.specs.Gather.{gather}
+use Rattle.tally.specs.declared.Tally.{Tally}
+use Rattle.tally.specs.declared.Read.{Read}
+use Rattle.tally.specs.declared.Reads.{Reads}
+use Rattle.tally.specs.declared.Opened.{Opened}
+use Rattle.tally.specs.declared.Replied.{Replied}
+use Rattle.tally.specs.Merge.{bestAt, answerOf}
+use Rattle.tally.specs.Open.{noRead, findRead, openRead, closeRead, putRead, replyTo}
+use Rattle.actions.specs.declared.Action.the-variants.{ReadAnswer}
+use Rattle.actions.specs.Actions.{Act, bare}
+use Rattle.decide.specs.Scalars.{isMember, quorum}
+use Rattle.replica.specs.declared.Replica.{Replica}
+use Rattle.replica.specs.Record.{Outcome, kept}
+use Rattle.replica.specs.Fit.{ready}
+
+abbrev pub withReads : Replica → Reads → Replica
+withReads r rs = record { sc = r .sc; bars = r .bars; window = r .window; keys = r .keys; reads = rs }
+
+abbrev pub opened : Replica → Opened → Outcome
+opened r o = record { answer = o .answer; replica = withReads r (o .reads); actions = [] }
+
+unfoldable pub openReadStep : Replica → ℕ → ℕ → ℕ → List ℕ → Outcome
+openReadStep r room id count keys = pick (not (ready r room)) (kept 1 r) (opened r (openRead (r .reads) id count keys))
+
+-- the answer for the key at a place: "A read answer has read id, place, tag and value (or leader, 255 = none)"
+abbrev pub readAct : ℕ → Read → ℕ → Act
+readAct leader d i =
+    bare (ReadAnswer (record { read = d .id; place = i; tag = answerOf leader (bestAt (d .tally) i) .tag; value = answerOf leader (bestAt (d .tally) i) .value }))
+
+-- what a reply makes of the read at place i: it closes and answers; it stays open as the reply leaves it; or the reply is refused
+unfoldable pub repliedStep : Replica → ℕ → Replied → Outcome
+repliedStep r i d =
+    pick (d .closes)
+    (record { answer = 0; replica = withReads r (closeRead (r .reads) i); actions = gather (λ k. readAct (r .sc .leader) (d .read) k ∷ []) 0 (d .answers) })
+    (pick (eqb (d .answer) 0 || eqb (d .answer) 12) (record { answer = d .answer; replica = withReads r (putRead (r .reads) i (d .read)); actions = [] })
+    (kept (d .answer) r))
+
+-- 10: a reply list over 8; "An unknown read id is ignored."
+unfoldable pub readReplyStep : Replica → ℕ → ℕ → ℕ → Bool → Tally → Outcome
+readReplyStep r room peer id fromLeader reply =
+    pick (not (ready r room)) (kept 1 r)
+    (pick (not (isMember (r .sc) peer)) (kept 2 r)
+    (pick (ltb 8 (reply .count)) (kept 10 r)
+    (pick (leb (r .reads .count) (findRead (r .reads) id)) (kept 0 r)
+    (repliedStep r (findRead (r .reads) id)
+    (replyTo (quorum (r .sc)) peer fromLeader reply (getD (r .reads .reads) (findRead (r .reads) id) noRead))))))

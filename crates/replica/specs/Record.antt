@@ -1,0 +1,147 @@
+-- The replica's record: slots by place and number, a fresh one, and what a call gives.
+use mathlib.Core.Path.{_≡_}
+use mathlib.Core.Bool.{Bool, true, false, not, _&&_, _||_}
+use mathlib.Core.List.{List, []}
+use Prim.Native.Nat.{ℕ, _+_, _-_}
+use lib.Dec.{ltb, leb, eqb}
+use lib.ListN.{length, getD, set, replicate}
+use Rattle.base.specs.Pick.{pick}
+use Rattle.base.specs.Over.{over}
+use Rattle.members.specs.Groups.{groupSize}
+use Rattle.batch.specs.declared.Batch.{Batch}
+use Rattle.batch.specs.Keys.{emptyTable, refresh, overfull}
+use Rattle.tally.specs.Open.{noReads}
+use Rattle.actions.specs.Actions.{Act, saysActs}
+use Rattle.slots.specs.declared.Slot.{Slot}
+use Rattle.slots.specs.Slots.{nullSlot, noSlot}
+use Rattle.decide.specs.declared.Scalars.{Scalars}
+use Rattle.decide.specs.declared.PeerBars.{PeerBars}
+use Rattle.decide.specs.declared.Decided.{Decided}
+use Rattle.decide.specs.Scalars.{nobody, unknownBar}
+use Rattle.decide.specs.Bars.{unknownBars}
+use Rattle.replica.specs.declared.Window.{Window}
+use Rattle.replica.specs.declared.Replica.{Replica}
+use Rattle.replica.specs.declared.Made.{Made}
+
+-- 01: "Window of 64 slots from start_slot". The place of slot s in the window, and the slot at a place
+abbrev pub place : Scalars → ℕ → ℕ
+place sc s = s - sc .start
+
+abbrev pub number : Scalars → ℕ → ℕ
+number sc i = sc .start + i
+
+-- "The log end is start plus the slots present."
+abbrev pub logEnd : Replica → ℕ
+logEnd r = r .sc .start + r .window .len
+
+abbrev pub slotAt : Window → ℕ → Slot
+slotAt w i = getD (w .slots) i noSlot
+
+abbrev pub putSlot : Window → ℕ → Slot → Window
+putSlot w i s = record { len = w .len; slots = set (w .slots) i s }
+
+-- "filling in null instances if needed": null slots up to n places; each is written null first, whatever stood there
+unfoldable pub grown : Window → ℕ → Window
+grown w n = pick (leb n (w .len)) w (record { len = n; slots = over (λ i s. nullSlot) noSlot (w .len) n (w .slots) })
+
+-- f of each slot from one place up to another
+abbrev pub sweep : (ℕ → Slot → Slot) → ℕ → ℕ → Window → Window
+sweep f from to w = record { len = w .len; slots = over f noSlot from to (w .slots) }
+
+-- 01: "Fresh: no leader, ballots and wal_offset 0, all bars at start, no slots. peer_accept_max and each other member's peer accept bar are
+-- 2^64 - 1; self has no entry until its first PrepareReply."
+abbrev pub freshScalars : ℕ → ℕ → ℕ → ℕ → Scalars
+freshScalars id group start options =
+    record {
+      id = id;
+      group = group;
+      start = start;
+      options = options;
+      leader = nobody;
+      «bal_prep_sent» = 0;
+      «bal_prepared» = 0;
+      «bal_max_seen» = 0;
+      «accept_bar» = start;
+      «commit_bar» = start;
+      «exec_bar» = start;
+      «wal_offset» = 0;
+      «peer_accept_max» = unknownBar;
+    }
+
+abbrev pub noSlots : Window
+noSlots = record { len = 0; slots = replicate 64 nullSlot }
+
+abbrev pub fresh : ℕ → ℕ → ℕ → ℕ → Replica
+fresh id group start options =
+    record { sc = freshScalars id group start options; bars = unknownBars false; window = noSlots; keys = emptyTable; reads = noReads }
+
+-- "A refused new replica is the all-zero record, which is unfit."
+abbrev pub zeroReplica : Replica
+zeroReplica =
+    record {
+      sc = record {
+        id = 0;
+        group = 0;
+        start = 0;
+        options = 0;
+        leader = 0;
+        «bal_prep_sent» = 0;
+        «bal_prepared» = 0;
+        «bal_max_seen» = 0;
+        «accept_bar» = 0;
+        «commit_bar» = 0;
+        «exec_bar» = 0;
+        «wal_offset» = 0;
+        «peer_accept_max» = 0;
+      };
+      bars = record { own = false; bars = replicate 9 0 };
+      window = noSlots;
+      keys = emptyTable;
+      reads = noReads;
+    }
+
+-- 10: "new replica with numbers outside the above"
+abbrev pub mayBe : ℕ → ℕ → ℕ → ℕ → Bool
+mayBe id group start options = groupSize group && (ltb id group && (leb start 4294967296 && leb options 3))
+
+unfoldable pub newReplica : ℕ → ℕ → ℕ → ℕ → Made
+newReplica id group start options =
+    pick (mayBe id group start options) (record { answer = 0; replica = fresh id group start options })
+    (record { answer = 10; replica = zeroReplica })
+
+-- what a call gives: its answer, the replica after it, its actions in order
+pub record Outcome : Type 0 where
+  pub answer : ℕ
+  pub replica : Replica
+  pub actions : List Act
+
+-- refused or ignored: "All but 0 and 12 change nothing; all but 0 give no actions."
+abbrev pub kept : ℕ → Replica → Outcome
+kept answer r = record { answer = answer; replica = r; actions = [] }
+
+abbrev pub withWindow : Replica → Scalars → Window → Replica
+withWindow r sc w = record { sc = sc; bars = r .bars; window = w; keys = r .keys; reads = r .reads }
+
+-- 7: "the call would add more new keys than the table has free", last; else refresh_highest_slot with the batch that a slot takes
+unfoldable pub noting : Replica → Bool → ℕ → Batch → Outcome → Outcome
+noting r noted slot b o =
+    pick (not (noted && eqb (o .answer) 0)) o
+    (pick (overfull (r .keys) b) (kept 7 r)
+    (record {
+      answer = 0;
+      replica = record {
+        sc = o .replica .sc;
+        bars = o .replica .bars;
+        window = o .replica .window;
+        keys = refresh slot b (r .keys);
+        reads = o .replica .reads;
+      };
+      actions = o .actions;
+    }))
+
+-- what was decided for the slot at place i of a window, carried out
+unfoldable pub settled : Replica → Window → ℕ → ℕ → Decided → Outcome
+settled r w i slot d =
+    pick (not (eqb (d .answer) 0)) (kept (d .answer) r)
+    (noting r (d .noted) slot (d .slot .batch)
+    (record { answer = 0; replica = withWindow r (d .sc) (putSlot w i (d .slot)); actions = saysActs (d .says) (d .keys) }))

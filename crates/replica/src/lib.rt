@@ -1,0 +1,60 @@
+// The replica: a value. Every call takes it, is lent room for its actions, and hands it back with its answer.
+ghost use mathlib.Core.Path.{_≡_};
+use batch::KeyTable;
+use decide::PeerBars;
+use decide::Scalars;
+use slots::Slot;
+use slots::Vote;
+use tally::Reads;
+
+// The log from the start slot on: the first `len` slots are present.
+pub struct Window {
+    pub len: usize,
+    pub slots: [Slot; 64],
+}
+
+pub struct Replica {
+    pub sc: Scalars,
+    pub bars: PeerBars,
+    pub window: Window,
+    pub keys: KeyTable,
+    pub reads: Reads,
+}
+
+// What a call hands back: its answer, how many actions the room has, and the replica after it.
+pub struct Handled {
+    pub answer: u64,
+    pub count: usize,
+    pub replica: Replica,
+}
+
+// A new replica: answer 0, or 10 and the all-zero record.
+pub struct Made {
+    pub answer: u64,
+    pub replica: Replica,
+}
+
+// A PrepareReply as it arrives. voted: whether a vote is present.
+pub struct Reply {
+    pub slot: u64,
+    pub trigger: u64,
+    pub endprep: u64,
+    pub ballot: u64,
+    pub voted: bool,
+    pub vote: Vote,
+    pub bar: u64,
+}
+
+// Which entry a log completion names.
+pub enum Entry {
+    PrepareBal,
+    AcceptData,
+    CommitSlot,
+}
+
+// A log completion: the entry's kind and slot, and the size of the log with it.
+pub struct Done {
+    pub entry: Entry,
+    pub slot: u64,
+    pub size: u64,
+}
