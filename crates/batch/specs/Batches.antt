@@ -33,9 +33,13 @@ makeBatch id count keys =
     (record { answer = 0; batch = record { id = id; count = count; keys = firstKeys count keys } })
     (record { answer = 10; batch = emptyBatch })
 
+-- how many places of an array a count uses: no more than there are
+abbrev pub clip : ℕ → ℕ → ℕ
+clip size count = pick (ltb size count) size count
+
 -- how many of the eight key numbers a batch uses
 abbrev pub keyCount : Batch → ℕ
-keyCount b = pick (ltb 8 (b .count)) 8 (b .count)
+keyCount b = clip 8 (b .count)
 
 -- the list of a batch
 abbrev pub keyList : Batch → List ℕ

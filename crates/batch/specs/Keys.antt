@@ -9,29 +9,43 @@ use Rattle.base.specs.Find.{any}
 use Rattle.base.specs.Scan.{scan}
 use Rattle.batch.specs.declared.Batch.{Batch}
 use Rattle.batch.specs.declared.KeyTable.{KeyTable}
-use Rattle.batch.specs.Batches.{keyCount}
+use Rattle.batch.specs.Batches.{clip, keyCount}
 
 abbrev pub emptyTable : KeyTable
 emptyTable = record { count = 0; keys = replicate 256 0; slots = replicate 256 0 }
 
--- the first place in use that holds the key, or the count where none does
+abbrev pub otherAt : List ℕ → ℕ → ℕ → Bool
+otherAt used key i = not (eqb (getD used i 0) key)
+
+-- the first place in use that holds the key, or how many are in use where none does
+unfoldable pub placeIn : List ℕ → ℕ → ℕ → ℕ
+placeIn used count key = scan (otherAt used key) 0 (clip 256 count)
+
+abbrev pub holds : List ℕ → ℕ → ℕ → Bool
+holds used count key = ltb (placeIn used count key) (clip 256 count)
+
 abbrev pub placeOf : KeyTable → ℕ → ℕ
-placeOf t key = scan (λ i. not (eqb (getD (t .keys) i 0) key)) 0 (t .count)
+placeOf t key = placeIn (t .keys) (t .count) key
 
 abbrev pub knows : KeyTable → ℕ → Bool
-knows t key = ltb (placeOf t key) (t .count)
+knows t key = holds (t .keys) (t .count) key
 
 -- the highest slot known for a key, 0 where none is
 abbrev pub slotOf : KeyTable → ℕ → ℕ
 slotOf t key = pick (knows t key) (getD (t .slots) (placeOf t key) 0) 0
 
--- a known key keeps the larger slot, a new one takes the next place; a full table stays (7 is asked before)
+-- a known key keeps the larger slot
+abbrev pub raised : ℕ → KeyTable → ℕ → KeyTable
+raised slot t key =
+    record { count = t .count; keys = t .keys; slots = set (t .slots) (placeOf t key) (larger (getD (t .slots) (placeOf t key) 0) slot) }
+
+-- a new key takes the next place
+abbrev pub added : ℕ → KeyTable → ℕ → KeyTable
+added slot t key = record { count = t .count + 1; keys = set (t .keys) (t .count) key; slots = set (t .slots) (t .count) slot }
+
+-- a full table stays: 7 is asked before
 unfoldable pub noteKey : ℕ → KeyTable → ℕ → KeyTable
-noteKey slot t key =
-    pick (knows t key)
-    (record { count = t .count; keys = t .keys; slots = set (t .slots) (placeOf t key) (larger (getD (t .slots) (placeOf t key) 0) slot) })
-    (pick (leb 256 (t .count)) t
-    (record { count = t .count + 1; keys = set (t .keys) (t .count) key; slots = set (t .slots) (t .count) slot }))
+noteKey slot t key = pick (knows t key) (raised slot t key) (pick (leb 256 (t .count)) t (added slot t key))
 
 -- the first n keys of a list, noted one after the other
 unfoldable pub noteKeys : ℕ → List ℕ → KeyTable → ℕ → KeyTable
@@ -46,15 +60,25 @@ abbrev pub count1 : Bool → ℕ
 count1 true = 1
 count1 false = 0
 
--- key i of the list is neither in the table nor earlier in the list
-abbrev pub isNew : KeyTable → List ℕ → ℕ → Bool
-isNew t keys i = not (knows t (getD keys i 0)) && not (any (λ j. eqb (getD keys j 0) (getD keys i 0)) 0 i)
+abbrev pub sameAt : List ℕ → ℕ → ℕ → Bool
+sameAt keys i j = eqb (getD keys j 0) (getD keys i 0)
+
+-- key i of a list stands earlier in it
+abbrev pub repeats : List ℕ → ℕ → Bool
+repeats keys i = any (sameAt keys i) 0 i
+
+-- key i of a list is neither in the table nor earlier in the list
+abbrev pub isNew : List ℕ → ℕ → List ℕ → ℕ → Bool
+isNew used count keys i = not (holds used count (getD keys i 0)) && not (repeats keys i)
 
 -- how many different keys among the first n of a list the table lacks
-unfoldable pub newKeys : KeyTable → List ℕ → ℕ → ℕ
-newKeys t keys zero = 0
-newKeys t keys (suc i) = newKeys t keys i + count1 (isNew t keys i)
+unfoldable pub newKeys : List ℕ → ℕ → List ℕ → ℕ → ℕ
+newKeys used count keys zero = 0
+newKeys used count keys (suc i) = newKeys used count keys i + count1 (isNew used count keys i)
 
 -- 7: "the call would add more new keys than the table has free"
-unfoldable pub overfull : KeyTable → Batch → Bool
-overfull t b = ltb 256 (t .count + newKeys t (b .keys) (keyCount b))
+unfoldable pub overfullIn : List ℕ → ℕ → Batch → Bool
+overfullIn used count b = ltb 256 (count + newKeys used count (b .keys) (keyCount b))
+
+abbrev pub overfull : KeyTable → Batch → Bool
+overfull t b = overfullIn (t .keys) (t .count) b

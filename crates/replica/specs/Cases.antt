@@ -10,7 +10,7 @@ use Rattle.base.specs.Gather.{gather}
 use Rattle.members.specs.Sets.{has, insert, count, countIn}
 use Rattle.batch.specs.declared.Batch.{Batch}
 use Rattle.batch.specs.Batches.{emptyBatch, makeBatch, sameList}
-use Rattle.batch.specs.Keys.{noteKey, noteKeys, newKeys, overfull}
+use Rattle.batch.specs.Keys.{placeIn, noteKey, noteKeys, newKeys, overfullIn}
 use Rattle.tally.specs.declared.Held.{Held}
 use Rattle.tally.specs.declared.Best.the-variants.{Value}
 use Rattle.tally.specs.declared.Tally.{Tally}
@@ -132,5 +132,5 @@ marked =
     ∷ []
 
 pub marked-hold : T (rightRuns marked)
-unfolding rightRuns marked rightRun rightTurn newReplica fit fitScalars fitSlots fitReads fitSlot grown noting settled prepareOn prepareStep lastUsed appended countedOn votedOn repliedOn replyOn prepareReplyStep acceptStep acceptReplyStep firstOpen lastOpen leadOn stepUp timeoutStep markOn markStop commitNoticeStep preparedDone movedAccept acceptedDone passOn passStop committedDone loggedOn loggedStep openReadStep repliedStep readReplyStep offerStep movedExec executedStep decideAccept decideAcceptReply decideVote decideCount decidePromised decideAccepted decideOffer notAbove leastMajority withBar withFallen has insert count countIn makeBatch noteKey noteKeys newKeys overfull merge findRead openRead closeRead putRead replyTo scan
+unfolding rightRuns marked rightRun rightTurn newReplica fit fitScalars fitSlots fitReads fitSlot grown noting settled prepareOn prepareStep lastUsed appended countedOn votedOn repliedOn replyOn prepareReplyStep acceptStep acceptReplyStep firstOpen lastOpen leadOn stepUp timeoutStep markOn markStop commitNoticeStep preparedDone movedAccept acceptedDone passOn passStop committedDone loggedOn loggedStep openReadStep repliedStep readReplyStep offerStep movedExec executedStep decideAccept decideAcceptReply decideVote decideCount decidePromised decideAccepted decideOffer notAbove leastMajority withBar withFallen has insert count countIn makeBatch noteKey noteKeys newKeys placeIn overfullIn merge findRead openRead closeRead putRead replyTo scan
 marked-hold = tt
