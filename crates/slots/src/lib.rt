@@ -1,5 +1,10 @@
 // One slot of the log, and every change that a call makes to ONE slot.
 ghost use mathlib.Core.Path.{_≡_};
+ghost use Rattle.slots.specs.Slots.{noVote, nullSlot, newBook, sourced};
+ghost use Rattle.slots.specs.Slots.{withState, withBatch, withVote, withLeader, withReplica, withExternal, withOffset};
+ghost use Rattle.slots.specs.Slots.{preparedSlot, redoneSlot, appendedSlot, adoptedSlot, countedSlot, enteredSlot, acceptedSlot};
+ghost use Rattle.slots.specs.Slots.{acknowledgedSlot, committedSlot, markedSlot, passedSlot, executedSlot, loggedSlot, offeredSlot, fitSlot};
+ghost use Rattle.batch.specs.Batches.{emptyBatch};
 use batch::Batch;
 
 // A status is a number that is compared as the source compares statuses.
@@ -46,4 +51,304 @@ pub struct Slot {
     pub replica: ReplicaBook,
     pub external: bool,
     pub wal_offset: u64,
+}
+
+// The batch of a null slot.
+fn no_batch() -> Batch
+    ensures { λ r. ⌜ r ≡ emptyBatch ⌝ }
+{
+    Batch {
+        id: 0,
+        count: 0,
+        keys: [0; 8],
+    }
+}
+
+// No vote: at ballot 0, of the empty batch.
+pub fn no_vote() -> Vote
+    ensures { λ r. ⌜ r ≡ noVote ⌝ }
+{
+    let batch = no_batch();
+    Vote {
+        ballot: 0,
+        batch: batch,
+    }
+}
+
+// A slot that nothing has happened to.
+pub fn null_slot() -> Slot
+    ensures { λ r. ⌜ r ≡ nullSlot ⌝ }
+{
+    let batch = no_batch();
+    let vote = no_vote();
+    Slot {
+        ballot: 0,
+        status: NULL,
+        batch: batch,
+        vote: vote,
+        leader: LeaderBook {
+            present: false,
+            trigger: 0,
+            endprep: 0,
+            prepare_acks: 0,
+            prepare_max_bal: 0,
+            accept_acks: 0,
+        },
+        replica: ReplicaBook {
+            present: false,
+            source: 0,
+            trigger: 0,
+            endprep: 0,
+        },
+        external: false,
+        wal_offset: 0,
+    }
+}
+
+// A leader's bookkeeping for the slots from trigger to endprep, with nobody heard of yet.
+pub fn new_book(trigger: u64, endprep: u64) -> LeaderBook
+    ensures { λ r. ⌜ r ≡ newBook trigger endprep ⌝ }
+{
+    LeaderBook {
+        present: true,
+        trigger: trigger,
+        endprep: endprep,
+        prepare_acks: 0,
+        prepare_max_bal: 0,
+        accept_acks: 0,
+    }
+}
+
+impl ReplicaBook {
+    // A known book keeps its trigger and endprep and gets the new source.
+    pub fn sourced(self, peer: u64) -> ReplicaBook
+        ensures { λ r. ⌜ r ≡ sourced self peer ⌝ }
+    {
+        if self.present {
+            return ReplicaBook {
+                present: true,
+                source: peer,
+                trigger: self.trigger,
+                endprep: self.endprep,
+            };
+        }
+        ReplicaBook {
+            present: true,
+            source: peer,
+            trigger: 0,
+            endprep: 0,
+        }
+    }
+}
+
+// A slot with one part changed.
+impl Slot {
+    pub fn with_state(mut self, ballot: u64, status: u64) -> Slot
+        ensures { λ r. ⌜ r ≡ withState self ballot status ⌝ }
+    {
+        self.ballot = ballot;
+        self.status = status;
+        self
+    }
+
+    pub fn with_batch(mut self, batch: Batch) -> Slot
+        ensures { λ r. ⌜ r ≡ withBatch self batch ⌝ }
+    {
+        self.batch = batch;
+        self
+    }
+
+    pub fn with_vote(mut self, vote: Vote) -> Slot
+        ensures { λ r. ⌜ r ≡ withVote self vote ⌝ }
+    {
+        self.vote = vote;
+        self
+    }
+
+    pub fn with_leader(mut self, book: LeaderBook) -> Slot
+        ensures { λ r. ⌜ r ≡ withLeader self book ⌝ }
+    {
+        self.leader = book;
+        self
+    }
+
+    pub fn with_replica(mut self, book: ReplicaBook) -> Slot
+        ensures { λ r. ⌜ r ≡ withReplica self book ⌝ }
+    {
+        self.replica = book;
+        self
+    }
+
+    pub fn with_external(mut self) -> Slot
+        ensures { λ r. ⌜ r ≡ withExternal self ⌝ }
+    {
+        self.external = true;
+        self
+    }
+
+    pub fn with_offset(mut self, offset: u64) -> Slot
+        ensures { λ r. ⌜ r ≡ withOffset self offset ⌝ }
+    {
+        self.wal_offset = offset;
+        self
+    }
+}
+
+// What a call makes of a slot.
+impl Slot {
+    // Prepare: Preparing at the ballot, whatever it was, with the bookkeeping of who asked.
+    pub fn prepared(self, ballot: u64, book: ReplicaBook) -> Slot
+        ensures { λ r. ⌜ r ≡ preparedSlot ballot book self ⌝ }
+    {
+        self.with_state(ballot, PREPARING).with_replica(book)
+    }
+
+    // A step-up: an executed slot stays, a committed one becomes external, any other is prepared anew.
+    pub fn redone(mut self, ballot: u64, book: LeaderBook) -> Slot
+        ensures { λ r. ⌜ r ≡ redoneSlot ballot book self ⌝ }
+    {
+        if EXECUTED <= self.status {
+            return self;
+        }
+        if COMMITTED <= self.status {
+            return self.with_external();
+        }
+        self.ballot = ballot;
+        self.status = PREPARING;
+        self.leader = book;
+        self.external = true;
+        self
+    }
+
+    // PrepareReply: the voted batch replaces the slot's.
+    pub fn adopted(mut self, vote: Vote) -> Slot
+        ensures { λ r. ⌜ r ≡ adoptedSlot vote self ⌝ }
+    {
+        let batch = vote.batch;
+        self.batch = batch;
+        self.leader.prepare_max_bal = vote.ballot;
+        self
+    }
+
+    // PrepareReply: a member counts, at the trigger slot.
+    pub fn counted(mut self, peer: u64) -> Slot
+        ensures { λ r. ⌜ r ≡ countedSlot peer self ⌝ }
+    {
+        let acks = members::with(self.leader.prepare_acks, peer);
+        self.leader.prepare_acks = acks;
+        self
+    }
+
+    // At the quorum a Preparing slot enters Accept.
+    pub fn entered(self) -> Slot
+        ensures { λ r. ⌜ r ≡ enteredSlot self ⌝ }
+    {
+        if self.status == PREPARING {
+            return self.with_state(self.ballot, ACCEPTING);
+        }
+        self
+    }
+
+    // Accept: Accepting at the ballot, whatever it was, with the batch as its own and as its vote.
+    pub fn accepted(self, peer: u64, ballot: u64, batch: Batch) -> Slot
+        ensures { λ r. ⌜ r ≡ acceptedSlot peer ballot batch self ⌝ }
+    {
+        let known = self.replica;
+        let book = known.sourced(peer);
+        let vote = Vote {
+            ballot: ballot,
+            batch: batch,
+        };
+        self.with_state(ballot, ACCEPTING).with_batch(batch).with_replica(book).with_vote(vote)
+    }
+
+    // AcceptReply: a member has accepted.
+    pub fn acknowledged(mut self, peer: u64) -> Slot
+        ensures { λ r. ⌜ r ≡ acknowledgedSlot peer self ⌝ }
+    {
+        let acks = members::with(self.leader.accept_acks, peer);
+        self.leader.accept_acks = acks;
+        self
+    }
+
+    // AcceptReply at the quorum.
+    pub fn committed(self) -> Slot
+        ensures { λ r. ⌜ r ≡ committedSlot self ⌝ }
+    {
+        self.with_state(self.ballot, COMMITTED)
+    }
+
+    // CommitNotice: what is committed already stays.
+    pub fn marked(self) -> Slot
+        ensures { λ r. ⌜ r ≡ markedSlot self ⌝ }
+    {
+        if COMMITTED <= self.status {
+            return self;
+        }
+        self.committed()
+    }
+
+    // As commit_bar passes it, an empty batch needs no execution.
+    pub fn passed(self) -> Slot
+        ensures { λ r. ⌜ r ≡ passedSlot self ⌝ }
+    {
+        if self.batch.id == 0 {
+            return self.with_state(self.ballot, EXECUTED);
+        }
+        self
+    }
+
+    // Executed: a Committed slot becomes Executed, other statuses stay.
+    pub fn executed(self) -> Slot
+        ensures { λ r. ⌜ r ≡ executedSlot self ⌝ }
+    {
+        if self.status == COMMITTED {
+            return self.with_state(self.ballot, EXECUTED);
+        }
+        self
+    }
+
+    // A log completion: the first offset at which the slot was logged.
+    pub fn logged(self, offset: u64) -> Slot
+        ensures { λ r. ⌜ r ≡ loggedSlot offset self ⌝ }
+    {
+        if self.wal_offset == 0 {
+            return self.with_offset(offset);
+        }
+        if offset < self.wal_offset {
+            return self.with_offset(offset);
+        }
+        self
+    }
+
+    // Whether its counts are within their tables and its member sets within a group.
+    pub fn is_fit(self, group: u64) -> bool
+        ensures { λ r. ⌜ r ≡ fitSlot group self ⌝ }
+    {
+        if 8 < self.batch.count {
+            return false;
+        }
+        if 8 < self.vote.batch.count {
+            return false;
+        }
+        if !members::within(self.leader.prepare_acks, group) {
+            return false;
+        }
+        members::within(self.leader.accept_acks, group)
+    }
+}
+
+// A slot that a leader did not know at its step-up, appended on a PrepareReply.
+pub fn appended_slot(ballot: u64, book: LeaderBook) -> Slot
+    ensures { λ r. ⌜ r ≡ appendedSlot ballot book ⌝ }
+{
+    null_slot().redone(ballot, book)
+}
+
+// A slot that an offer appends.
+pub fn offered_slot(ballot: u64, batch: Batch) -> Slot
+    ensures { λ r. ⌜ r ≡ offeredSlot ballot batch ⌝ }
+{
+    let book = new_book(0, 0);
+    null_slot().with_state(ballot, ACCEPTING).with_external().with_batch(batch).with_leader(book)
 }
