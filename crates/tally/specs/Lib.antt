@@ -1,2 +1,6 @@
 pub mod Merge
 pub mod Open
+pub mod Turns
+pub mod Cases
+pub mod Laws
+pub mod ReadLaws

@@ -1,9 +1,8 @@
 -- Merging a reply. 01: "For each key, the best answer is nothing, a slot alone, or a slot with a value. Merging a reply:"
 use mathlib.Core.Bool.{Bool, true, false, not, _&&_, _||_}
-use mathlib.Core.List.{List, []}
 use Prim.Native.Nat.{ℕ}
 use lib.Dec.{ltb, leb, eqb}
-use lib.ListN.{getD, replicate}
+use lib.ListN.{getD}
 use Rattle.base.specs.Pick.{pick}
 use Rattle.base.specs.Over.{over}
 use Rattle.base.specs.Scan.{scan}
@@ -45,6 +44,11 @@ mergeKey held Nothing = Into held
 mergeKey held (Slot s) = mergeSlot held s
 mergeKey held (Value h) = mergeValue held h
 
+-- 01's number for each case: a conflict is 12
+abbrev pub mergedAnswer : MergedKey → ℕ
+mergedAnswer (Into b) = 0
+mergedAnswer Conflict = 12
+
 abbrev pub conflicts : MergedKey → Bool
 conflicts (Into b) = false
 conflicts Conflict = true
@@ -61,9 +65,13 @@ noBest = record { best = Nothing }
 abbrev pub bestAt : Tally → ℕ → Best
 bestAt t i = getD (t .bests) i noBest .best
 
+-- at key i the two do not conflict
+abbrev pub agree : Tally → Tally → ℕ → Bool
+agree held reply i = not (conflicts (mergeKey (bestAt held i) (bestAt reply i)))
+
 -- the first key below `count` at which the two conflict, or the count
 abbrev pub conflictAt : Tally → Tally → ℕ
-conflictAt held reply = scan (λ i. not (conflicts (mergeKey (bestAt held i) (bestAt reply i)))) 0 (held .count)
+conflictAt held reply = scan (agree held reply) 0 (held .count)
 
 abbrev pub mergeAt : Tally → ℕ → KeyBest → KeyBest
 mergeAt reply i held = record { best = mergedBest (held .best) (mergeKey (held .best) (bestAt reply i)) }
@@ -77,7 +85,7 @@ unfoldable pub merge : Tally → Tally → Merged
 merge held reply =
     pick (ltb 8 (held .count) || ltb 8 (reply .count)) (record { answer = 1; tally = held })
     (pick (not (eqb (held .count) (reply .count))) (record { answer = 6; tally = held })
-    (record { answer = pick (ltb (conflictAt held reply) (held .count)) 12 0; tally = mergeUpTo held reply (conflictAt held reply) }))
+    (record { answer = pick (ltb (conflictAt held reply) (held .count)) (mergedAnswer Conflict) 0; tally = mergeUpTo held reply (conflictAt held reply) }))
 
 -- "quorum answers: nothing = not found (tag 0), slot alone = retry naming the leader (1), value = the value (2)"
 abbrev pub answerOf : ℕ → Best → ReadAnswer

@@ -1,5 +1,5 @@
 -- Open reads. 01: "A read has 1 to 8 keys, opens with no acknowledgements and with nothing known per key."
-use mathlib.Core.Bool.{Bool, true, false, not, _&&_, _||_}
+use mathlib.Core.Bool.{Bool, true, false, not, _||_}
 use mathlib.Core.List.{List, []}
 use Prim.Native.Nat.{ℕ, _+_, _-_}
 use lib.Dec.{ltb, leb, eqb}
@@ -33,9 +33,13 @@ noReads = record { count = 0; reads = replicate 16 nullRead }
 abbrev pub noRead : Read
 noRead = record { id = 0; acks = 0; keys = []; tally = record { count = 0; bests = [] } }
 
--- the place of the open read with this id, or the count where there is none
+-- the read at place i is another one
+abbrev pub otherAt : Reads → ℕ → ℕ → Bool
+otherAt rs id i = not (eqb (getD (rs .reads) i noRead .id) id)
+
+-- the place of the open read with this id, or the count where there is none; of a count above 16 no place is in use
 unfoldable pub findRead : Reads → ℕ → ℕ
-findRead rs id = scan (λ i. not (eqb (getD (rs .reads) i noRead .id) id)) 0 (rs .count)
+findRead rs id = pick (ltb 16 (rs .count)) (rs .count) (scan (otherAt rs id) 0 (rs .count))
 
 abbrev pub isOpen : Reads → ℕ → Bool
 isOpen rs id = ltb (findRead rs id) (rs .count)
@@ -73,12 +77,15 @@ stays answer r = record { answer = answer; closes = false; answers = 0; read = r
 abbrev pub replaced : Read → Tally → Replied
 replaced r reply = record { answer = 0; closes = true; answers = smaller (r .tally .count) (reply .count); read = withTally r reply }
 
--- the merge is done: "the sender is not acknowledged" on a conflict; else it is, and a quorum answers
+-- "quorum answers", for every key of the read; fewer wait
+abbrev pub weighed : ℕ → Read → Replied
+weighed quorum r = pick (leb quorum (countIn (r .acks))) (record { answer = 0; closes = true; answers = r .tally .count; read = r }) (stays 0 r)
+
+-- the merge is done: on a conflict "the sender is not acknowledged", else it is
 abbrev pub counted : ℕ → ℕ → Read → Merged → Replied
 counted quorum peer r m =
     pick (not (eqb (m .answer) 0)) (stays (m .answer) (withTally r (m .tally)))
-    (let next = withAck (withTally r (m .tally)) peer in
-    record { answer = 0; closes = leb quorum (countIn (next .acks)); answers = m .tally .count; read = next })
+    (weighed quorum (withAck (withTally r (m .tally)) peer))
 
 -- one reply to one open read; "A member already acknowledged is ignored."
 unfoldable pub replyTo : ℕ → ℕ → Bool → Tally → Read → Replied

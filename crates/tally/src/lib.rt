@@ -1,5 +1,7 @@
 // Read tallies: what a replica knows of the keys of each open read (quorumread.rs, handle_msg_read_query_reply).
-ghost use mathlib.Core.Path.{_≡_};
+
+pub mod merge;
+pub mod open_reads;
 
 // A slot and the value that it holds.
 pub struct Held {
