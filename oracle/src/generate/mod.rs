@@ -1,0 +1,82 @@
+//! Traces that a seed fixes.
+
+mod group;
+mod habits;
+mod reads;
+mod rng;
+mod spoil;
+mod wild;
+
+use std::io;
+
+use group::World;
+use habits::Habits;
+use rng::Rng;
+
+use crate::call::{Call, Entry};
+
+#[derive(Debug, Clone, Copy, PartialEq, Eq)]
+pub enum Profile {
+    Group,
+    Fuzz,
+    Reads,
+    Mix,
+}
+
+pub const PROFILES: [(&str, Profile); 4] = [
+    ("group", Profile::Group),
+    ("fuzz", Profile::Fuzz),
+    ("reads", Profile::Reads),
+    ("mix", Profile::Mix),
+];
+
+impl Profile {
+    pub fn named(name: &str) -> Option<Profile> {
+        PROFILES.iter().find(|known| known.0 == name).map(|known| known.1)
+    }
+
+    /// Traces with damage also end in a short record, every other time, and begin without a
+    /// replica.
+    fn is_damaged(self) -> bool {
+        matches!(self, Profile::Fuzz | Profile::Mix)
+    }
+}
+
+/// 01's worked example: a group of one commits its first slot.
+pub fn worked_example() -> Vec<u8> {
+    let done = |entry, size| Call::LogDone { entry, slot: 0, size };
+    let calls = [
+        Call::New { id: 0, group: 1, start: 0, options: 0 },
+        Call::Timeout { source: 0 },
+        done(Entry::PrepareBal, 40),
+        done(Entry::AcceptData, 80),
+        done(Entry::CommitSlot, 120),
+    ];
+    calls.iter().flat_map(|call| call.to_record().encode()).collect()
+}
+
+/// Writes `count` records: what one member of each of many groups received.
+pub fn generate(
+    seed: u64,
+    count: u64,
+    profile: Profile,
+    mut write: impl FnMut(&[u8]) -> io::Result<()>,
+) -> io::Result<()> {
+    let mut rng = Rng::new(seed ^ (profile as u64) << 60);
+    let short = profile.is_damaged() && rng.often(500);
+    let mut written = 0;
+    while profile.is_damaged() && written < count.min(4) {
+        write(&wild::before_any_replica(&mut rng))?;
+        written += 1;
+    }
+    while written < count {
+        let habits = Habits::draw(&mut rng, profile);
+        for record in World::new(&mut rng, habits).run(count - written) {
+            written += 1;
+            let whole = written < count || !short;
+            let length = if whole { record.len() } else { 1 + rng.index(record.len() - 1) };
+            write(&record[..length])?;
+        }
+    }
+    Ok(())
+}

@@ -1,0 +1,136 @@
+//! The commands of the oracle.
+
+use std::fs::File;
+use std::io::{self, BufReader, BufWriter, Read, Write};
+use std::process::ExitCode;
+
+use oracle::digest::Digest;
+use oracle::generate::{self, Profile};
+use oracle::play::play;
+use oracle::stats::Stats;
+use oracle::tell::Text;
+
+const USAGE: &str = "usage:
+  oracle replay    a trace on standard input; 01's line for each record
+  oracle tell      the same, with the actions and the whole state of each record
+  oracle digest    checksums of what `tell` prints, for each 64 records and for all
+  oracle stats [TRACE..]
+                   what the trace reaches, or what the named traces reach together
+  oracle gen SEED COUNT --profile group|fuzz|reads|mix
+                   writes a trace of COUNT records, fixed by the seed
+  oracle example   writes 01's worked example as a trace";
+
+/// Input and output go through buffers of this size.
+const BUFFER: usize = 64 * 1024;
+
+enum Command {
+    Replay,
+    Tell,
+    Digest,
+    Stats { traces: Vec<String> },
+    Example,
+    Generate { seed: u64, count: u64, profile: Profile },
+}
+
+fn main() -> ExitCode {
+    let words: Vec<String> =
+        std::env::args_os().skip(1).map(|word| word.to_string_lossy().into_owned()).collect();
+    let command = match parse(&words) {
+        Ok(command) => command,
+        Err(message) => {
+            eprintln!("oracle: {message}\n{USAGE}");
+            return ExitCode::from(2);
+        }
+    };
+    if !cfg!(debug_assertions) {
+        eprintln!("oracle: built without debug assertions, which answer 6 needs");
+        return ExitCode::from(2);
+    }
+    match run(command) {
+        Ok(()) => ExitCode::SUCCESS,
+        Err(error) => {
+            eprintln!("oracle: {error}");
+            ExitCode::FAILURE
+        }
+    }
+}
+
+fn parse(words: &[String]) -> Result<Command, String> {
+    let words: Vec<&str> = words.iter().map(String::as_str).collect();
+    match words.as_slice() {
+        [] => Err("no command".to_string()),
+        ["replay"] => Ok(Command::Replay),
+        ["tell"] => Ok(Command::Tell),
+        ["digest"] => Ok(Command::Digest),
+        ["example"] => Ok(Command::Example),
+        ["stats", traces @ ..] => {
+            Ok(Command::Stats { traces: traces.iter().map(|name| name.to_string()).collect() })
+        }
+        ["gen", seed, count, "--profile", profile] => Ok(Command::Generate {
+            seed: number("SEED", seed)?,
+            count: number("COUNT", count)?,
+            profile: Profile::named(profile)
+                .ok_or_else(|| format!("no profile is called '{profile}'"))?,
+        }),
+        ["gen", ..] => Err("gen takes SEED COUNT --profile NAME".to_string()),
+        [name @ ("replay" | "tell" | "digest" | "example"), ..] => {
+            Err(format!("{name} takes no arguments"))
+        }
+        [name, ..] => Err(format!("no command is called '{name}'")),
+    }
+}
+
+fn number(what: &str, word: &str) -> Result<u64, String> {
+    word.parse().map_err(|_| format!("{what} is a number below 2^64, not '{word}'"))
+}
+
+fn run(command: Command) -> io::Result<()> {
+    let input = BufReader::with_capacity(BUFFER, io::stdin().lock());
+    let mut output = BufWriter::with_capacity(BUFFER, io::stdout().lock());
+    match command {
+        Command::Replay => print_each(input, &mut output, false)?,
+        Command::Tell => print_each(input, &mut output, true)?,
+        Command::Digest => {
+            let mut digest = Digest::default();
+            play(input, |played| {
+                digest.add(&played);
+                Ok(())
+            })?;
+            output.write_all(digest.finish().as_bytes())?;
+        }
+        Command::Stats { traces } => {
+            let mut stats = Stats::default();
+            for trace in &traces {
+                let file = File::open(trace).map_err(|error| named(trace, error))?;
+                let input = BufReader::with_capacity(BUFFER, file);
+                stats.read(input).map_err(|error| named(trace, error))?;
+            }
+            if traces.is_empty() {
+                stats.read(input)?;
+            }
+            output.write_all(stats.report().as_bytes())?;
+        }
+        Command::Example => output.write_all(&generate::worked_example())?,
+        Command::Generate { seed, count, profile } => {
+            generate::generate(seed, count, profile, |bytes| output.write_all(bytes))?;
+        }
+    }
+    output.flush()
+}
+
+fn named(trace: &str, error: io::Error) -> io::Error {
+    io::Error::new(error.kind(), format!("{trace}: {error}"))
+}
+
+fn print_each(input: impl Read, output: &mut impl Write, whole: bool) -> io::Result<()> {
+    let mut text = Text::default();
+    play(input, |played| {
+        text.bytes.clear();
+        if whole {
+            text.told(played.number, played.outcome, played.replica);
+        } else {
+            text.replay_line(played.number, played.outcome, played.replica);
+        }
+        output.write_all(&text.bytes)
+    })
+}

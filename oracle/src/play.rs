@@ -1,0 +1,48 @@
+//! Steps through a trace: whole records, then what is left over as a short one.
+
+use std::io::{self, Read};
+
+use crate::host::Replica;
+use crate::record::RECORD_BYTES;
+use crate::session::{Outcome, Session};
+
+/// What one record did.
+pub struct Played<'a> {
+    pub number: u64,
+    pub bytes: &'a [u8],
+    pub outcome: &'a Outcome,
+    pub replica: Option<&'a Replica>,
+}
+
+pub fn play(
+    mut input: impl Read,
+    mut each: impl FnMut(Played) -> io::Result<()>,
+) -> io::Result<()> {
+    let mut session = Session::default();
+    let mut bytes = [0; RECORD_BYTES];
+    let mut number = 0;
+    loop {
+        let length = fill(&mut input, &mut bytes)?;
+        if length == 0 {
+            return Ok(());
+        }
+        number += 1;
+        let bytes = &bytes[..length];
+        let outcome = session.feed(bytes);
+        each(Played { number, bytes, outcome: &outcome, replica: session.replica() })?;
+    }
+}
+
+/// Reads until the record is whole or the input ends.
+fn fill(input: &mut impl Read, bytes: &mut [u8]) -> io::Result<usize> {
+    let mut length = 0;
+    while length < bytes.len() {
+        match input.read(&mut bytes[length..]) {
+            Ok(0) => break,
+            Ok(more) => length += more,
+            Err(error) if error.kind() == io::ErrorKind::Interrupted => {}
+            Err(error) => return Err(error),
+        }
+    }
+    Ok(length)
+}

@@ -1,0 +1,218 @@
+//! The text of a record: `replay`'s line, and the whole state and actions for `tell`.
+
+use crate::action::Action;
+use crate::host::Replica;
+use crate::host::multipaxos::{Instance, Knowledge, QuorumReadBookkeeping, ReqBatch};
+use crate::server::{ApiRequest, Command};
+use crate::session::Outcome;
+
+const ABSENT_KEYS: usize = 8;
+
+/// Text under way: numbers with one blank between, lines with one line feed.
+#[derive(Default)]
+pub struct Text {
+    pub bytes: Vec<u8>,
+}
+
+impl Text {
+    /// 01: number, answer, action count, bal_max_seen, accept_bar, commit_bar, exec_bar.
+    pub fn replay_line(&mut self, number: u64, outcome: &Outcome, replica: Option<&Replica>) {
+        let state = replica.map_or([0; 4], |replica| {
+            let bars = [replica.accept_bar, replica.commit_bar, replica.exec_bar];
+            [replica.bal_max_seen, bars[0] as u64, bars[1] as u64, bars[2] as u64]
+        });
+        self.digits(number);
+        self.numbers(&[u64::from(outcome.answer), outcome.actions.len() as u64]);
+        self.numbers(&state);
+        self.end_line();
+    }
+
+    /// The whole text of a record.
+    pub fn told(&mut self, number: u64, outcome: &Outcome, replica: Option<&Replica>) {
+        self.replay_line(number, outcome, replica);
+        for action in &outcome.actions {
+            self.action(action);
+        }
+        match replica {
+            None => self.bytes.extend_from_slice(b"Z\n"),
+            Some(replica) => self.state(replica),
+        }
+    }
+
+    fn action(&mut self, action: &Action) {
+        self.bytes.push(b'A');
+        self.numbers(&action.numbers());
+        self.end_line();
+    }
+
+    pub fn state(&mut self, replica: &Replica) {
+        self.scalars(replica);
+        self.peers(replica);
+        for (place, instance) in replica.insts.iter().enumerate() {
+            self.slot(replica.start_slot + place, instance);
+        }
+        self.keys(replica);
+        self.reads(replica);
+    }
+
+    fn scalars(&mut self, replica: &Replica) {
+        self.bytes.push(b'S');
+        self.numbers(&[
+            u64::from(replica.id),
+            u64::from(replica.population),
+            u64::from(replica.quorum_cnt),
+            replica.start_slot as u64,
+            u64::from(replica.config.urgent_commit_notice),
+            u64::from(replica.config.disallow_step_up),
+            replica.leader.map_or(255, u64::from),
+            replica.bal_prep_sent,
+            replica.bal_prepared,
+            replica.bal_max_seen,
+            replica.accept_bar as u64,
+            replica.commit_bar as u64,
+            replica.exec_bar as u64,
+            replica.wal_offset as u64,
+            replica.peer_accept_max as u64,
+            replica.insts.len() as u64,
+            replica.highest_slot.len() as u64,
+            replica.quorum_reads.len() as u64,
+        ]);
+        self.end_line();
+    }
+
+    fn peers(&mut self, replica: &Replica) {
+        for member in 0..replica.population {
+            if let Some(&bar) = replica.peer_accept_bar.get(&member) {
+                self.bytes.push(b'P');
+                self.numbers(&[u64::from(member), bar as u64]);
+                self.end_line();
+            }
+        }
+    }
+
+    fn slot(&mut self, slot: usize, instance: &Instance) {
+        self.bytes.push(b'I');
+        self.numbers(&[
+            slot as u64,
+            instance.bal,
+            instance.status as u64,
+            u64::from(instance.external),
+            instance.wal_offset as u64,
+        ]);
+        self.batch(&instance.reqs);
+        self.numbers(&[instance.voted.0]);
+        self.batch(&instance.voted.1);
+        self.numbers(&match &instance.leader_bk {
+            None => [0; 6],
+            Some(leading) => [
+                1,
+                leading.trigger_slot as u64,
+                leading.endprep_slot as u64,
+                leading.prepare_acks.mask(),
+                leading.prepare_max_bal,
+                leading.accept_acks.mask(),
+            ],
+        });
+        self.numbers(&match &instance.replica_bk {
+            None => [0; 4],
+            Some(following) => [
+                1,
+                u64::from(following.source),
+                following.trigger_slot as u64,
+                following.endprep_slot as u64,
+            ],
+        });
+        self.end_line();
+    }
+
+    /// Batch id, key count, eight keys; the source's strings are the numbers' own digits.
+    fn batch(&mut self, requests: &ReqBatch) {
+        let id = match requests.first() {
+            Some((_, ApiRequest::Req { id, .. })) => *id,
+            _ => 0,
+        };
+        let puts = requests.len().saturating_sub(1);
+        self.numbers(&[id, puts as u64]);
+        for (_, request) in requests.iter().skip(1) {
+            if let ApiRequest::Req { cmd: Command::Put { key, .. }, .. } = request {
+                self.bytes.push(b' ');
+                self.bytes.extend_from_slice(key.as_bytes());
+            }
+        }
+        for _ in puts..ABSENT_KEYS {
+            self.bytes.extend_from_slice(b" 0");
+        }
+    }
+
+    fn keys(&mut self, replica: &Replica) {
+        let mut table: Vec<(&str, usize)> =
+            replica.highest_slot.iter().map(|(key, &slot)| (key.as_str(), slot)).collect();
+        // Decimal numbers without leading zeros rise with length, then with their digits.
+        table.sort_unstable_by_key(|&(key, _)| (key.len(), key));
+        for (key, slot) in table {
+            self.bytes.extend_from_slice(b"K ");
+            self.bytes.extend_from_slice(key.as_bytes());
+            self.numbers(&[slot as u64]);
+            self.end_line();
+        }
+    }
+
+    fn reads(&mut self, replica: &Replica) {
+        let mut reads: Vec<_> = replica.quorum_reads.iter().collect();
+        reads.sort_unstable_by_key(|(name, _)| name.0);
+        for (name, read) in reads {
+            self.read(name.0, read);
+        }
+    }
+
+    fn read(&mut self, id: u64, read: &QuorumReadBookkeeping) {
+        self.bytes.push(b'R');
+        self.numbers(&[id, read.rq_acks.mask(), read.reads.len() as u64]);
+        for ((_, request), best) in read.reads.iter().zip(&read.max_replies) {
+            if let ApiRequest::Req { cmd: Command::Get { key }, .. } = request {
+                self.bytes.push(b' ');
+                self.bytes.extend_from_slice(key.as_bytes());
+            }
+            self.best(best);
+        }
+        self.end_line();
+    }
+
+    fn best(&mut self, best: &Knowledge) {
+        match best {
+            None => self.numbers(&[0, 0, 0]),
+            Some((slot, None)) => self.numbers(&[1, *slot as u64, 0]),
+            Some((slot, Some(value))) => {
+                self.numbers(&[2, *slot as u64]);
+                self.bytes.push(b' ');
+                self.bytes.extend_from_slice(value.as_bytes());
+            }
+        }
+    }
+
+    /// Each number after a blank.
+    fn numbers(&mut self, numbers: &[u64]) {
+        for &number in numbers {
+            self.bytes.push(b' ');
+            self.digits(number);
+        }
+    }
+
+    fn digits(&mut self, mut number: u64) {
+        let mut digits = [0; 20];
+        let mut at = digits.len();
+        loop {
+            at -= 1;
+            digits[at] = b'0' + (number % 10) as u8;
+            number /= 10;
+            if number == 0 {
+                break;
+            }
+        }
+        self.bytes.extend_from_slice(&digits[at..]);
+    }
+
+    fn end_line(&mut self) {
+        self.bytes.push(b'\n');
+    }
+}

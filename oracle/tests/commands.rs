@@ -1,0 +1,144 @@
+//! The commands as a user meets them.
+
+use std::io::Write;
+use std::process::{Command, Output, Stdio};
+
+use oracle::call::Call;
+use oracle::generate::worked_example;
+use oracle::record::Record;
+
+fn oracle(words: &[&str], input: &[u8]) -> Output {
+    let mut child = Command::new(env!("CARGO_BIN_EXE_oracle"))
+        .args(words)
+        .stdin(Stdio::piped())
+        .stdout(Stdio::piped())
+        .stderr(Stdio::piped())
+        .spawn()
+        .expect("the oracle starts");
+    let mut stdin = child.stdin.take().expect("a pipe");
+    let input = input.to_vec();
+    // A command that refuses its words may close the pipe first.
+    let writer = std::thread::spawn(move || drop(stdin.write_all(&input)));
+    let output = child.wait_with_output().expect("the oracle ends");
+    writer.join().expect("the writer ends");
+    output
+}
+
+fn printed(words: &[&str], input: &[u8]) -> String {
+    let output = oracle(words, input);
+    assert!(output.status.success(), "{output:?}");
+    String::from_utf8(output.stdout).expect("the text is ASCII")
+}
+
+fn bytes(calls: &[Call]) -> Vec<u8> {
+    calls.iter().flat_map(|call| call.to_record().encode()).collect()
+}
+
+#[test]
+fn the_worked_example_prints_01s_lines() {
+    let lines =
+        "1 0 0 0 0 0 0\n2 0 4 257 0 0 0\n3 0 2 257 0 0 0\n4 0 1 257 1 0 0\n5 0 0 257 1 1 0\n";
+    assert_eq!(printed(&["replay"], &worked_example()), lines);
+}
+
+#[test]
+fn tell_begins_each_record_with_its_replay_line() {
+    let told = printed(&["tell"], &worked_example());
+    let digits: String =
+        told.split_inclusive('\n').filter(|line| line.as_bytes()[0].is_ascii_digit()).collect();
+    assert_eq!(digits, printed(&["replay"], &worked_example()));
+}
+
+#[test]
+fn empty_input_prints_nothing() {
+    assert_eq!(printed(&["replay"], b""), "");
+    assert_eq!(printed(&["tell"], b""), "");
+}
+
+#[test]
+fn malformed_records_are_13_and_reading_goes_on() {
+    let good = worked_example();
+    let mut trace = good[..512].to_vec();
+    let well = Call::Timeout { source: 0 }.to_record();
+    let mut wrong_sum = well.encode();
+    wrong_sum[4] ^= 1;
+    trace.extend(wrong_sum);
+    let ill = [
+        Record { kind: 12, ..well },
+        Record { count: 9, ..well },
+        Record { kind: 2, sub: 2, ..well },
+        Record { kind: 8, sub: 0, ..well },
+        Record { kind: 8, sub: 4, ..well },
+        Record { kind: 11, sub: 2, ..well },
+        Record { kind: 11, count: 1, entries: [[3, 0, 0]; 8], ..well },
+    ];
+    trace.extend(ill.iter().flat_map(Record::encode));
+    trace.extend(&good[512..]);
+    trace.extend([0; 255]);
+    let lines: Vec<String> = printed(&["replay"], &trace).lines().map(String::from).collect();
+    assert_eq!(lines.len(), 14);
+    for number in 3..=10 {
+        assert_eq!(lines[number - 1], format!("{number} 13 0 257 0 0 0"));
+    }
+    assert_eq!(lines[12], "13 0 0 257 1 1 0");
+    assert_eq!(lines[13], "14 13 0 257 1 1 0");
+}
+
+#[test]
+fn tags_past_the_count_and_unused_fields_are_passed_by() {
+    let mut read = Record { kind: 11, count: 1, entries: [[3, 5, 5]; 8], ..Record::default() };
+    read.entries[0] = [0, 7, 7];
+    let timeout = Record { kind: 6, sub: 200, count: 8, slot: 9, bar: 9, ..Record::default() };
+    let mut trace = worked_example()[..256].to_vec();
+    trace.extend(read.encode());
+    trace.extend(timeout.encode());
+    assert_eq!(printed(&["replay"], &trace), "1 0 0 0 0 0 0\n2 0 0 0 0 0 0\n3 0 4 257 0 0 0\n");
+}
+
+#[test]
+fn before_a_first_replica_the_record_is_all_zero() {
+    let mut trace = bytes(&[Call::Timeout { source: 0 }]);
+    trace.push(0);
+    assert_eq!(printed(&["tell"], &trace), "1 1 0 0 0 0 0\nZ\n2 13 0 0 0 0 0\nZ\n");
+}
+
+#[test]
+fn a_seed_and_a_profile_fix_a_trace() {
+    for profile in ["group", "fuzz", "reads", "mix"] {
+        let gen_with = |seed| oracle(&["gen", seed, "700", "--profile", profile], b"").stdout;
+        let trace = gen_with("3");
+        assert_eq!(trace.len().div_ceil(256), 700);
+        assert_eq!(trace, gen_with("3"));
+        assert_ne!(trace, gen_with("4"));
+    }
+}
+
+#[test]
+fn a_trace_that_is_not_there_is_an_error() {
+    let output = oracle(&["stats", "no/such.trace"], b"");
+    assert_eq!(output.status.code(), Some(1));
+    assert!(String::from_utf8_lossy(&output.stderr).contains("no/such.trace"));
+}
+
+#[test]
+fn bad_usage_is_an_error() {
+    let bad: [&[&str]; 11] = [
+        &[],
+        &["play"],
+        &["replay", "trace"],
+        &["tell", "-"],
+        &["example", "2"],
+        &["gen"],
+        &["gen", "1", "2"],
+        &["gen", "1", "2", "--profile"],
+        &["gen", "one", "2", "--profile", "mix"],
+        &["gen", "1", "-2", "--profile", "mix"],
+        &["gen", "1", "2", "--profile", "all"],
+    ];
+    for words in bad {
+        let output = oracle(words, b"");
+        assert_eq!(output.status.code(), Some(2), "{words:?}");
+        assert!(output.stdout.is_empty(), "{words:?}");
+        assert!(String::from_utf8_lossy(&output.stderr).contains("usage:"), "{words:?}");
+    }
+}

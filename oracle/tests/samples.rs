@@ -1,0 +1,69 @@
+//! The stored samples: the oracle still says of them what is stored, and they reach everything.
+
+use std::fs;
+use std::path::{Path, PathBuf};
+
+use oracle::digest::Digest;
+use oracle::play::play;
+use oracle::stats::Stats;
+use oracle::tell::Text;
+
+fn folder() -> PathBuf {
+    Path::new(env!("CARGO_MANIFEST_DIR")).join("samples")
+}
+
+fn traces() -> Vec<PathBuf> {
+    let mut traces: Vec<PathBuf> = fs::read_dir(folder())
+        .expect("the samples")
+        .map(|entry| entry.expect("a sample").path())
+        .filter(|path| path.extension().is_some_and(|end| end == "trace"))
+        .collect();
+    traces.sort();
+    assert!(traces.len() >= 6, "samples are missing");
+    traces
+}
+
+fn stored(trace: &Path, extension: &str) -> String {
+    let path = trace.with_extension(extension);
+    fs::read_to_string(&path).unwrap_or_else(|error| panic!("{}: {error}", path.display()))
+}
+
+#[test]
+fn replay_and_digest_are_as_stored() {
+    for trace in traces() {
+        let (mut lines, mut digest) = (Text::default(), Digest::default());
+        play(fs::File::open(&trace).expect("a trace"), |played| {
+            lines.replay_line(played.number, played.outcome, played.replica);
+            digest.add(&played);
+            Ok(())
+        })
+        .expect("the trace is read");
+        let name = trace.display();
+        assert!(lines.bytes == stored(&trace, "replay").as_bytes(), "{name}: replay differs");
+        assert!(digest.finish() == stored(&trace, "digest"), "{name}: the told text differs");
+    }
+}
+
+#[test]
+fn the_worked_example_is_told_as_stored() {
+    let trace = folder().join("worked.trace");
+    let mut text = Text::default();
+    play(fs::File::open(&trace).expect("a trace"), |played| {
+        text.told(played.number, played.outcome, played.replica);
+        Ok(())
+    })
+    .expect("the trace is read");
+    assert_eq!(String::from_utf8(text.bytes).expect("ASCII"), stored(&trace, "tell"));
+}
+
+#[test]
+fn together_they_reach_every_answer_action_and_branch() {
+    let mut stats = Stats::default();
+    for trace in traces() {
+        stats.read(fs::File::open(trace).expect("a trace")).expect("the trace is read");
+    }
+    assert_eq!(stats.missing(), Vec::<String>::new());
+    assert_eq!((stats.depth.slots, stats.depth.keys, stats.depth.reads), (64, 256, 16));
+    assert_eq!((stats.depth.committed, stats.depth.executed), (64, 64));
+    assert_eq!(stats.depth.actions, 191);
+}
