@@ -1,11 +1,15 @@
 -- A choice by a test: `pick test a b` is a where the test holds and b where it does not. It reads like an early return.
-use mathlib.Core.Path.{_≡_, refl}
+use mathlib.Core.Path.{_≡_, refl, sym, _∙_}
 use mathlib.Core.Bool.{Bool, true, false, _&&_, _||_}
 use mathlib.Core.Logic.{_⊎_, inl, inr}
 use Prim.Native.Nat.{ℕ, suc, _≤_, _<_}
 use native.Mathlib.Omega.{arith}
 use lib.Dec.{ltb, leb, eqb}
 use borrow.Author.Tests.{ltb-true, ltb-false, leb-true, leb-false, eqb-true, eqb-false}
+
+-- two answers that an equation allows are one: the worth of every promise that is an equation
+pub coincide : {A : Type 0} {d x y : A} → x ≡ d → y ≡ d → x ≡ y
+coincide p q = p ∙ sym q
 
 -- the tests on numbers as facts, for `omega (arith, tests)`
 pub ruleset tests = (ltb-true, ltb-false, leb-true, leb-false, eqb-true, eqb-false)

@@ -1,6 +1,15 @@
 // What a call that touches one slot decides, from the replica's scalars and that slot: small values in, small values out.
-ghost use mathlib.Core.Path.{_≡_};
+mod bars;
+mod numbers;
+mod replies;
+
 use actions::Says;
+pub use bars::unknown_bars;
+pub use numbers::NOBODY;
+pub use numbers::UNKNOWN_BAR;
+pub use replies::awaits_prepare;
+pub use replies::proposal;
+pub use replies::sent_vote;
 use slots::Slot;
 
 // The replica's numbers. options: 1 urgent commit notice + 2 step-up disallowed; leader: 255 = none.

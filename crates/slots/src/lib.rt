@@ -259,7 +259,10 @@ impl Slot {
             ballot: ballot,
             batch: batch,
         };
-        self.with_state(ballot, ACCEPTING).with_batch(batch).with_replica(book).with_vote(vote)
+        self.with_state(ballot, ACCEPTING)
+            .with_batch(batch)
+            .with_replica(book)
+            .with_vote(vote)
     }
 
     // AcceptReply: a member has accepted.
@@ -350,5 +353,9 @@ pub fn offered_slot(ballot: u64, batch: Batch) -> Slot
     ensures { λ r. ⌜ r ≡ offeredSlot ballot batch ⌝ }
 {
     let book = new_book(0, 0);
-    null_slot().with_state(ballot, ACCEPTING).with_external().with_batch(batch).with_leader(book)
+    null_slot()
+        .with_state(ballot, ACCEPTING)
+        .with_external()
+        .with_batch(batch)
+        .with_leader(book)
 }
