@@ -1,0 +1,9 @@
+pub mod Little
+pub mod Put
+pub mod Sums
+pub mod Decimal
+pub mod PutLaws
+pub mod LittleLaws
+pub mod SumLaws
+pub mod DecimalLaws
+pub mod Cases
