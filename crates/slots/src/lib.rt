@@ -4,8 +4,8 @@ ghost use Rattle.slots.specs.Slots.{noVote, nullSlot, newBook, sourced};
 ghost use Rattle.slots.specs.Slots.{withState, withBatch, withVote, withLeader, withReplica, withExternal, withOffset};
 ghost use Rattle.slots.specs.Slots.{preparedSlot, redoneSlot, appendedSlot, adoptedSlot, countedSlot, enteredSlot, acceptedSlot};
 ghost use Rattle.slots.specs.Slots.{acknowledgedSlot, committedSlot, markedSlot, passedSlot, executedSlot, loggedSlot, offeredSlot, fitSlot};
-ghost use Rattle.batch.specs.Batches.{emptyBatch};
 use batch::Batch;
+use batch::empty_batch;
 
 // A status is a number that is compared as the source compares statuses.
 pub const NULL: u64 = 0;
@@ -53,22 +53,11 @@ pub struct Slot {
     pub wal_offset: u64,
 }
 
-// The batch of a null slot.
-fn no_batch() -> Batch
-    ensures { λ r. ⌜ r ≡ emptyBatch ⌝ }
-{
-    Batch {
-        id: 0,
-        count: 0,
-        keys: [0; 8],
-    }
-}
-
 // No vote: at ballot 0, of the empty batch.
 pub fn no_vote() -> Vote
     ensures { λ r. ⌜ r ≡ noVote ⌝ }
 {
-    let batch = no_batch();
+    let batch = empty_batch();
     Vote {
         ballot: 0,
         batch: batch,
@@ -79,7 +68,7 @@ pub fn no_vote() -> Vote
 pub fn null_slot() -> Slot
     ensures { λ r. ⌜ r ≡ nullSlot ⌝ }
 {
-    let batch = no_batch();
+    let batch = empty_batch();
     let vote = no_vote();
     Slot {
         ballot: 0,
