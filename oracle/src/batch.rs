@@ -1,12 +1,14 @@
 //! Batches and key lists by number, and the request lists that stand for them in the source.
 
+use std::fmt;
+
 use crate::host::multipaxos::ReqBatch;
 use crate::server::{ApiRequest, Command};
 
 /// 01: "a list of 0 to 8 key numbers".
 pub const MOST_KEYS: usize = 8;
 
-#[derive(Debug, Clone, Copy, PartialEq, Eq, Default)]
+#[derive(Clone, Copy, PartialEq, Eq, Default)]
 pub struct Keys {
     count: u8,
     numbers: [u64; MOST_KEYS],
@@ -36,6 +38,12 @@ impl Keys {
 
     pub fn is_empty(&self) -> bool {
         self.count == 0
+    }
+}
+
+impl fmt::Debug for Keys {
+    fn fmt(&self, out: &mut fmt::Formatter) -> fmt::Result {
+        self.as_slice().fmt(out)
     }
 }
 

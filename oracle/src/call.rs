@@ -1,5 +1,7 @@
 //! One call by its meaning: from a record and back, and how the source is run for it.
 
+use std::fmt;
+
 use crate::batch::{Batch, Keys};
 use crate::host::Replica;
 use crate::host::multipaxos::{Knowledge, PeerMsg, Status};
@@ -16,7 +18,7 @@ pub enum Known {
 }
 
 /// The list of a read reply.
-#[derive(Debug, Clone, Copy, PartialEq, Eq, Default)]
+#[derive(Clone, Copy, PartialEq, Eq, Default)]
 pub struct KnownList {
     count: u8,
     list: [Known; 8],
@@ -31,6 +33,12 @@ impl KnownList {
 
     pub fn as_slice(&self) -> &[Known] {
         &self.list[..self.count as usize]
+    }
+}
+
+impl fmt::Debug for KnownList {
+    fn fmt(&self, out: &mut fmt::Formatter) -> fmt::Result {
+        self.as_slice().fmt(out)
     }
 }
 
@@ -269,15 +277,15 @@ fn with_batch(record: Record, batch: Batch) -> Record {
 }
 
 fn known_of(record: &Record) -> KnownList {
-    let list: Vec<Known> = record.entries[..usize::from(record.count)]
-        .iter()
-        .map(|entry| match entry[0] {
+    let mut known = KnownList { count: record.count, ..KnownList::default() };
+    for (place, entry) in record.entries[..usize::from(record.count)].iter().enumerate() {
+        known.list[place] = match entry[0] {
             0 => Known::Nothing,
             1 => Known::Slot(entry[1]),
             _ => Known::Value(entry[1], entry[2]),
-        })
-        .collect();
-    KnownList::from_slice(&list)
+        };
+    }
+    known
 }
 
 fn with_known(record: Record, known: &KnownList) -> Record {

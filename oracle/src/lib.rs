@@ -5,10 +5,13 @@
 mod host;
 
 pub mod action;
+pub mod agree;
+pub mod baseline;
 pub mod batch;
 pub mod branches;
 pub mod call;
 pub mod digest;
+mod foresee;
 pub mod generate;
 pub mod guard;
 pub mod play;

@@ -4,6 +4,8 @@ use std::fs::File;
 use std::io::{self, BufReader, BufWriter, Read, Write};
 use std::process::ExitCode;
 
+use oracle::agree::{Agreement, agree};
+use oracle::baseline::{self, BUFFER};
 use oracle::digest::Digest;
 use oracle::generate::{self, Profile};
 use oracle::play::play;
@@ -14,19 +16,22 @@ const USAGE: &str = "usage:
   oracle replay    a trace on standard input; 01's line for each record
   oracle tell      the same, with the actions and the whole state of each record
   oracle digest    checksums of what `tell` prints, for each 64 records and for all
+  oracle baseline  the lines of `replay`, by the plain program that times are compared with
+  oracle agree TRACE
+                   another program's told text of TRACE on standard input; the first record
+                   that differs, or how many agree
   oracle stats [TRACE..]
                    what the trace reaches, or what the named traces reach together
-  oracle gen SEED COUNT --profile group|fuzz|reads|mix
+  oracle gen SEED COUNT --profile group|fuzz|reads|mix|writes
                    writes a trace of COUNT records, fixed by the seed
   oracle example   writes 01's worked example as a trace";
-
-/// Input and output go through buffers of this size.
-const BUFFER: usize = 64 * 1024;
 
 enum Command {
     Replay,
     Tell,
     Digest,
+    Baseline,
+    Agree { trace: String },
     Stats { traces: Vec<String> },
     Example,
     Generate { seed: u64, count: u64, profile: Profile },
@@ -42,12 +47,12 @@ fn main() -> ExitCode {
             return ExitCode::from(2);
         }
     };
-    if !cfg!(debug_assertions) {
+    if !cfg!(debug_assertions) && !matches!(command, Command::Baseline) {
         eprintln!("oracle: built without debug assertions, which answer 6 needs");
         return ExitCode::from(2);
     }
     match run(command) {
-        Ok(()) => ExitCode::SUCCESS,
+        Ok(code) => code,
         Err(error) => {
             eprintln!("oracle: {error}");
             ExitCode::FAILURE
@@ -62,6 +67,9 @@ fn parse(words: &[String]) -> Result<Command, String> {
         ["replay"] => Ok(Command::Replay),
         ["tell"] => Ok(Command::Tell),
         ["digest"] => Ok(Command::Digest),
+        ["baseline"] => Ok(Command::Baseline),
+        ["agree", trace] => Ok(Command::Agree { trace: trace.to_string() }),
+        ["agree", ..] => Err("agree takes TRACE".to_string()),
         ["example"] => Ok(Command::Example),
         ["stats", traces @ ..] => {
             Ok(Command::Stats { traces: traces.iter().map(|name| name.to_string()).collect() })
@@ -73,7 +81,7 @@ fn parse(words: &[String]) -> Result<Command, String> {
                 .ok_or_else(|| format!("no profile is called '{profile}'"))?,
         }),
         ["gen", ..] => Err("gen takes SEED COUNT --profile NAME".to_string()),
-        [name @ ("replay" | "tell" | "digest" | "example"), ..] => {
+        [name @ ("replay" | "tell" | "digest" | "baseline" | "example"), ..] => {
             Err(format!("{name} takes no arguments"))
         }
         [name, ..] => Err(format!("no command is called '{name}'")),
@@ -84,10 +92,11 @@ fn number(what: &str, word: &str) -> Result<u64, String> {
     word.parse().map_err(|_| format!("{what} is a number below 2^64, not '{word}'"))
 }
 
-fn run(command: Command) -> io::Result<()> {
+fn run(command: Command) -> io::Result<ExitCode> {
     let input = BufReader::with_capacity(BUFFER, io::stdin().lock());
     let mut output = BufWriter::with_capacity(BUFFER, io::stdout().lock());
     match command {
+        Command::Baseline => baseline::replay(io::stdin().lock(), &mut output)?,
         Command::Replay => print_each(input, &mut output, false)?,
         Command::Tell => print_each(input, &mut output, true)?,
         Command::Digest => {
@@ -98,12 +107,19 @@ fn run(command: Command) -> io::Result<()> {
             })?;
             output.write_all(digest.finish().as_bytes())?;
         }
+        Command::Agree { trace } => {
+            let (said, code) = match agree(open(&trace)?, input)? {
+                Agreement::Whole(records) => (format!("{records} records agree\n"), 0),
+                Agreement::Differs(difference) => (difference.report(), 1),
+            };
+            output.write_all(said.as_bytes())?;
+            output.flush()?;
+            return Ok(ExitCode::from(code));
+        }
         Command::Stats { traces } => {
             let mut stats = Stats::default();
             for trace in &traces {
-                let file = File::open(trace).map_err(|error| named(trace, error))?;
-                let input = BufReader::with_capacity(BUFFER, file);
-                stats.read(input).map_err(|error| named(trace, error))?;
+                stats.read(open(trace)?).map_err(|error| named(trace, error))?;
             }
             if traces.is_empty() {
                 stats.read(input)?;
@@ -115,7 +131,13 @@ fn run(command: Command) -> io::Result<()> {
             generate::generate(seed, count, profile, |bytes| output.write_all(bytes))?;
         }
     }
-    output.flush()
+    output.flush()?;
+    Ok(ExitCode::SUCCESS)
+}
+
+fn open(trace: &str) -> io::Result<BufReader<File>> {
+    let file = File::open(trace).map_err(|error| named(trace, error))?;
+    Ok(BufReader::with_capacity(BUFFER, file))
 }
 
 fn named(trace: &str, error: io::Error) -> io::Error {

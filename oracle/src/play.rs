@@ -33,8 +33,8 @@ pub fn play(
     }
 }
 
-/// Reads until the record is whole or the input ends.
-fn fill(input: &mut impl Read, bytes: &mut [u8]) -> io::Result<usize> {
+/// Reads until the bytes are full or the input ends.
+pub(crate) fn fill(input: &mut impl Read, bytes: &mut [u8]) -> io::Result<usize> {
     let mut length = 0;
     while length < bytes.len() {
         match input.read(&mut bytes[length..]) {

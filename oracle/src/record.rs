@@ -92,9 +92,8 @@ impl Record {
 
 /// 01: "the sum of the other 63 four-byte words, wrapping at 2^32".
 fn sum_of_the_others(bytes: &[u8]) -> u32 {
-    (0..RECORD_BYTES / 4)
-        .filter(|&place| place != 1)
-        .fold(0, |sum, place| sum.wrapping_add(word(bytes, 4 * place)))
+    let words = bytes.chunks_exact(4).map(|chunk| word(chunk, 0));
+    words.fold(0, u32::wrapping_add).wrapping_sub(word(bytes, 4))
 }
 
 fn word(bytes: &[u8], at: usize) -> u32 {

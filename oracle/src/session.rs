@@ -3,7 +3,7 @@
 use crate::action::{Action, ROOM};
 use crate::call::Call;
 use crate::guard::{self, Ended, Place};
-use crate::host::{Replica, recorder};
+use crate::host::{Replica, actions, recorder};
 use crate::record::Record;
 use crate::refuse::{self, MOST_HIGHEST_KEYS};
 
@@ -79,7 +79,7 @@ impl Live {
         }
         let past_the_window = refuse::needs_a_slot_past_the_window(&self.replica, call);
         let ended = guard::attempt(|| call.run(&mut self.replica));
-        let actions = recorder::take();
+        let actions = actions::take();
         assert_eq!(
             past_the_window,
             ended == Ended::WindowFull,
@@ -90,7 +90,7 @@ impl Live {
             Ended::Panicked(place) => Outcome { place: Some(place), ..self.refuse(6) },
             Ended::Done if self.replica.highest_slot.len() > MOST_HIGHEST_KEYS => self.refuse(7),
             Ended::Done => self.keep(call, 0, actions),
-            Ended::Failed(error) if error.text().starts_with("conflicting committed value") => {
+            Ended::Failed(error) if error.is_a_conflict() => {
                 assert!(actions.is_empty(), "a conflict gives no actions: {call:?}");
                 self.keep(call, 12, actions)
             }

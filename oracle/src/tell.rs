@@ -17,12 +17,22 @@ pub struct Text {
 impl Text {
     /// 01: number, answer, action count, bal_max_seen, accept_bar, commit_bar, exec_bar.
     pub fn replay_line(&mut self, number: u64, outcome: &Outcome, replica: Option<&Replica>) {
+        self.line(number, outcome.answer, outcome.actions.len(), replica);
+    }
+
+    pub(crate) fn line(
+        &mut self,
+        number: u64,
+        answer: u8,
+        actions: usize,
+        replica: Option<&Replica>,
+    ) {
         let state = replica.map_or([0; 4], |replica| {
             let bars = [replica.accept_bar, replica.commit_bar, replica.exec_bar];
             [replica.bal_max_seen, bars[0] as u64, bars[1] as u64, bars[2] as u64]
         });
         self.digits(number);
-        self.numbers(&[u64::from(outcome.answer), outcome.actions.len() as u64]);
+        self.numbers(&[u64::from(answer), actions as u64]);
         self.numbers(&state);
         self.end_line();
     }
@@ -198,21 +208,68 @@ impl Text {
         }
     }
 
-    fn digits(&mut self, mut number: u64) {
-        let mut digits = [0; 20];
-        let mut at = digits.len();
-        loop {
-            at -= 1;
-            digits[at] = b'0' + (number % 10) as u8;
-            number /= 10;
-            if number == 0 {
-                break;
-            }
-        }
-        self.bytes.extend_from_slice(&digits[at..]);
+    fn digits(&mut self, number: u64) {
+        self.bytes.extend_from_slice(decimal(number).as_bytes());
     }
 
     fn end_line(&mut self) {
         self.bytes.push(b'\n');
+    }
+}
+
+/// A number's decimal digits.
+pub(crate) struct Decimal {
+    digits: [u8; 20],
+    from: usize,
+}
+
+/// Two digits a turn.
+pub(crate) fn decimal(mut number: u64) -> Decimal {
+    let mut digits = [b'0'; 20];
+    let mut from = digits.len();
+    while number >= 100 {
+        from -= 2;
+        digits[from..from + 2].copy_from_slice(&PAIRS[(number % 100) as usize]);
+        number /= 100;
+    }
+    from -= 2;
+    digits[from..from + 2].copy_from_slice(&PAIRS[number as usize]);
+    Decimal { digits, from: from + usize::from(number < 10) }
+}
+
+impl Decimal {
+    pub(crate) fn as_bytes(&self) -> &[u8] {
+        &self.digits[self.from..]
+    }
+
+    pub(crate) fn as_str(&self) -> &str {
+        str::from_utf8(self.as_bytes()).expect("digits are ASCII")
+    }
+}
+
+/// "00" to "99".
+const PAIRS: [[u8; 2]; 100] = pairs();
+
+const fn pairs() -> [[u8; 2]; 100] {
+    let mut pairs = [[0; 2]; 100];
+    let mut number = 0;
+    while number < 100 {
+        pairs[number] = [b'0' + (number / 10) as u8, b'0' + (number % 10) as u8];
+        number += 1;
+    }
+    pairs
+}
+
+#[cfg(test)]
+mod tests {
+    use super::*;
+
+    #[test]
+    fn decimals_are_as_rust_prints_them() {
+        let powers = (0..20).map(|power| 10_u64.pow(power));
+        let edges = powers.flat_map(|power| [power - 1, power, power + 1, 5 * (power / 2)]);
+        for number in edges.chain(0..=1000).chain([u64::MAX - 1, u64::MAX]) {
+            assert_eq!(decimal(number).as_str(), number.to_string());
+        }
     }
 }

@@ -50,6 +50,7 @@ impl Habits {
         match profile {
             Profile::Fuzz => habits.spoil(rng),
             Profile::Reads => habits.read_much(rng),
+            Profile::Writes => habits.only_write(),
             Profile::Group | Profile::Mix => {}
         }
         habits
@@ -96,6 +97,12 @@ impl Habits {
         self.wild = rng.pick(&[0, 80, 400, 6000]);
         self.timeouts += 4;
         self.reads = rng.pick(&[2, 20]);
+    }
+
+    /// No reads, and no more keys than the table holds.
+    fn only_write(&mut self) {
+        self.reads = 0;
+        self.keys = self.keys.min(250);
     }
 
     fn read_much(&mut self, rng: &mut Rng) {

@@ -21,13 +21,15 @@ pub enum Profile {
     Fuzz,
     Reads,
     Mix,
+    Writes,
 }
 
-pub const PROFILES: [(&str, Profile); 4] = [
+pub const PROFILES: [(&str, Profile); 5] = [
     ("group", Profile::Group),
     ("fuzz", Profile::Fuzz),
     ("reads", Profile::Reads),
     ("mix", Profile::Mix),
+    ("writes", Profile::Writes),
 ];
 
 impl Profile {

@@ -3,6 +3,7 @@
 #[macro_use]
 mod macros;
 
+pub(crate) mod actions;
 mod added;
 mod executor;
 pub(crate) mod manager;

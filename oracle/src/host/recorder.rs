@@ -1,26 +1,44 @@
-//! One list for all hubs, so that actions stand in the order in which the source gave them.
+//! One list for all hubs: what the source handed over, as it stands, in its order.
 
 use std::cell::RefCell;
 
-use crate::action::{Action, Kind};
+use super::multipaxos::{PeerMsg, WalEntry};
+use super::server::{ApiReply, ClientId, Command, CommandId, LogActionId, ReplicaId};
+
+pub(crate) enum Given {
+    Entry(LogActionId, WalEntry),
+    Message(PeerMsg, ReplicaId),
+    Broadcast(PeerMsg),
+    Status { step_up: bool },
+    Command(CommandId, Command),
+    Reply(ApiReply, ClientId),
+}
 
 thread_local! {
-    static ACTIONS: RefCell<Vec<Action>> = const { RefCell::new(Vec::new()) };
+    static LIST: RefCell<Vec<Given>> = const { RefCell::new(Vec::new()) };
 }
 
-pub(crate) fn record(action: Action) {
-    ACTIONS.with_borrow_mut(|actions| actions.push(action));
-}
-
-/// Changes the last action, which must be an Execute for this slot.
-pub(crate) fn extend_execute(slot: u64, change: impl FnOnce(&mut Action)) {
-    ACTIONS.with_borrow_mut(|actions| match actions.last_mut() {
-        Some(last) if last.kind == Kind::Execute && last.slot == slot => change(last),
-        _ => must_not_be_reached!("a batch's later command before its first"),
-    });
+pub(crate) fn record(given: Given) {
+    LIST.with_borrow_mut(|list| list.push(given));
 }
 
 /// Hands over what was recorded since the last call and starts anew.
-pub(crate) fn take() -> Vec<Action> {
-    ACTIONS.take()
+pub(crate) fn take() -> Vec<Given> {
+    LIST.take()
+}
+
+/// How many actions of 01 were recorded since the last call; starts anew in the same room.
+pub(crate) fn count() -> usize {
+    LIST.with_borrow_mut(|list| {
+        let actions = list.iter().filter(|given| given.begins_an_action()).count();
+        list.clear();
+        actions
+    })
+}
+
+impl Given {
+    /// One Execute stands for all commands of a batch: its first begins it.
+    fn begins_an_action(&self) -> bool {
+        !matches!(self, Given::Command((_, 1..), _))
+    }
 }

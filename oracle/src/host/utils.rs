@@ -13,6 +13,11 @@ impl SummersetError {
     pub(crate) fn text(&self) -> &str {
         &self.0
     }
+
+    /// 12: the one error of the source that has a number.
+    pub(crate) fn is_a_conflict(&self) -> bool {
+        self.0.starts_with("conflicting committed value")
+    }
 }
 
 /// A set of members; an index outside the group is an error, as in the source.

@@ -1,0 +1,13 @@
+pub mod BySlot
+pub mod Theorem
+pub mod Frame
+pub mod Good
+pub mod OfMessages
+pub mod OfReply
+pub mod OfLeadership
+pub mod OfRest
+pub mod Calls
+pub mod Local
+pub mod Group
+pub mod Commits
+pub mod Runs

@@ -1,0 +1,222 @@
+-- A timeout and a CommitNotice keep to the frame.
+use mathlib.Core.Path.{_≡_, refl, sym, _∙_, subst}
+use mathlib.Core.Bool.{true, false, not, _||_}
+use mathlib.Core.List.{List, [], _∷_, _++_, List·Memᴰ·head}
+use mathlib.Core.Logic.{_⊎_, inl, inr}
+use Prim.Native.Nat.{ℕ, _+_, _-_, _/_, _≤_, _<_}
+use native.Mathlib.Omega.{arith}
+use lib.Dec.{ltb, leb, eqb}
+use borrow.Author.Tests.{ltb-true, ltb-false, leb-true}
+use Rattle.base.specs.Pick.{pick-both, pick-cases, decide, tests, and-right}
+use Rattle.base.specs.Over.{length-over}
+use Rattle.base.specs.Gather.{gather, all-gather, in-gather}
+use Rattle.base.specs.Scan.{scan-high, scan-passed}
+use Rattle.base.specs.Among.{_∈_, All, all-append}
+use Rattle.members.specs.declared.NextBallot.{NextBallot}
+use Rattle.members.specs.Ballots.{owns, ballotAbove}
+use Rattle.actions.specs.declared.Action.the-variants.{Prepare, Heartbeat, StatusUp}
+use Rattle.actions.specs.Actions.{Act, bare}
+use Rattle.slots.specs.declared.Slot.{Slot}
+use Rattle.slots.specs.Slots.{noSlot, accepting, committed, executed, newBook, redoneSlot, markedSlot, withExternal}
+use Rattle.decide.specs.declared.Scalars.{Scalars}
+use Rattle.decide.specs.Scalars.{isMember, isPeer, steppedUp}
+use Rattle.replica.specs.declared.Window.{Window}
+use Rattle.replica.specs.declared.Replica.{Replica}
+use Rattle.replica.specs.Record.{place, number, slotAt, grown, sweep}
+use Rattle.replica.specs.Fit.{ready}
+use Rattle.replica.specs.Leadership.{ignoresTimeout, firstOpen, lastOpen, redoActs, leadOn, stepUp, timeoutStep, mayMark, markActs, markOn, markStop, commitNoticeStep}
+use Rattle.replica.specs.Step.{Call}
+use Rattle.agreement.specs.BySlot.{placed, placed-in, placed-here, len-grown, sweep-cases, sweep-at}
+use Rattle.agreement.specs.Theorem.{commitEntry}
+use Rattle.agreement.specs.Frame.{Cell, cell, view, Marked, ActOk, kept, cleared}
+use Rattle.agreement.specs.Good.{GoodSlot, Good, Ok, GoodReplica, Heads, same-self, heads-same, Turned, turned-like, turned-self, Each, assemble, at-number, Grew, grew, good-grew, grew-ok, kept-ok}
+
+-- ── step-up ──
+-- below the first open slot all are committed
+pub open-placed : (w : Window) (i : ℕ) → i < firstOpen w → 3 ≤ placed w i .status
+unfolding firstOpen
+open-placed w i h =
+    subst (λ (x : Slot). 3 ≤ x .status) (sym (placed-in w i (omega (arith, scan-high (λ i. leb committed (slotAt w i .status)) 0 (w .len) (omega arith)))))
+    (leb-true 3 (slotAt w i .status) (scan-passed (λ i. leb committed (slotAt w i .status)) 0 (w .len) i (omega arith) h))
+
+module _ (r : Replica) (c : Call) (w : Window) (trigger endprep : ℕ) (g : GoodReplica r) (q : Grew (r .window) w)
+    (done : (i : ℕ) → i < place (r .sc) (r .sc .«exec_bar») → 3 ≤ placed w i .status) where
+  abbrev pub raised : ℕ
+  raised = ballotAbove (r .sc .«bal_max_seen») (r .sc .id)
+
+  abbrev pub upSc : Scalars
+  upSc = steppedUp (r .sc) raised
+
+  abbrev pub from : ℕ
+  from = place (r .sc) (r .sc .«exec_bar»)
+
+  abbrev pub redone : Slot → Slot
+  redone s = redoneSlot raised (newBook trigger endprep) s
+
+  abbrev pub upW : Window
+  upW = sweep (λ i s. redone s) from (w .len) w
+
+  abbrev pub redoes : List Act
+  redoes = gather (λ i. redoActs (number (r .sc) i) raised (slotAt w i)) from (w .len)
+
+  abbrev pub upActs : List Act
+  upActs = bare StatusUp ∷ bare Heartbeat ∷ (redoes ++ (bare (Prepare (record { trigger = trigger; ballot = raised })) ∷ []))
+
+  gw : Good (r .sc) w
+  gw = good-grew g q
+
+  above : r .sc .«bal_max_seen» < raised
+  above = omega arith
+
+  up-heads : Heads (r .sc) upSc
+  up-heads = record { id = refl; start = refl; mono = omega arith; lead = λ _. inr above; sent = λ _. refl; own = λ _. omega (arith, g .small) }
+
+  up-high : (x : Slot) → GoodSlot (r .sc) x → 3 ≤ x .status → GoodSlot upSc x
+  up-high x k h = record { under = omega (arith, k .under, above); busy = λ _ _ z. absurd (omega arith); tidy = k .tidy; tidyVote = k .tidyVote }
+
+  abbrev pub Up : ℕ → Slot → Slot → Type 0
+  Up i x y = Turned (view (r .sc) w) upSc (view upSc upW) upActs (r .sc .start + i) x y
+
+  redone-turned : (i : ℕ) (x : Slot) → GoodSlot (r .sc) x → Up i x (redone x)
+  redone-turned i x k =
+      pick-cases (Up i x) (leb executed (x .status)) (λ t. turned-self x (up-high x k (omega (arith, tests)))) (λ _.
+      pick-cases (Up i x) (leb committed (x .status))
+      (λ t. turned-like x (withExternal x) (up-high x k (leb-true 3 (x .status) t)) (record { status = refl; ballot = refl; batch = refl; vote = refl }))
+      (λ t.
+      record {
+        good = record { under = omega arith; busy = λ _ _ _. refl; tidy = k .tidy; tidyVote = k .tidyVote };
+        step = cleared (λ z. omega arith) (inl above);
+        rise = λ _ z. absurd (omega arith);
+      }))
+
+  -- a slot that is not in the range is committed or not there
+  rest-good : (i : ℕ) → (from ≤ i → i < w .len → i < w .len → ⊥) → GoodSlot upSc (placed w i)
+  rest-good i z =
+      record {
+        under = omega (arith, gw .each i .under, above);
+        busy = λ _ a b. absurd (go (decide (ltb i from)) a b);
+        tidy = gw .each i .tidy;
+        tidyVote = gw .each i .tidyVote;
+      }
+    where
+      go : (ltb i from ≡ true) ⊎ (ltb i from ≡ false) → 1 ≤ placed w i .status → placed w i .status < 3 → ⊥
+      go (inl e) a b = omega (arith, done i (ltb-true i from e))
+      go (inr e) a b = let l : i < w .len = placed-here w i a in z (ltb-false i from e) l l
+
+  up-each : Each (r .sc) w c 0 upSc upW upActs
+  up-each i =
+      sweep-cases (Up i (placed w i)) (λ i s. redone s) from (w .len) w i (omega (arith, q .wide, q .short))
+      (λ _ _ _. redone-turned i (placed w i) (gw .each i)) (λ z. turned-self (placed w i) (rest-good i z))
+
+  pub leadOn-ok : Ok r c (leadOn r w trigger endprep raised)
+  unfolding leadOn
+  leadOn-ok =
+      grew-ok (r .sc) (r .window) w c 0 upSc upW upActs q
+      (assemble (r .sc) w c 0 upSc upW upActs gw up-heads (length-over (λ i s. redone s) noSlot from (w .len) (w .slots) ∙ q .wide) (q .short) up-each (
+        tt,
+        (
+          tt,
+          all-append (ActOk (view (r .sc) w) c (view upSc upW) upActs) redoes (bare (Prepare (record { trigger = trigger; ballot = raised })) ∷ [])
+              (all-gather (λ i. redoActs (number (r .sc) i) raised (slotAt w i)) (ActOk (view (r .sc) w) c (view upSc upW) upActs) from (w .len)
+              (λ i _ _. pick-both (All (ActOk (view (r .sc) w) c (view upSc upW) upActs)) (leb committed (slotAt w i .status)) tt (refl, tt)))
+              (tt, tt),
+        ),
+      )
+      (λ z. absurd (z refl)))
+
+pub timeoutStep-ok : (r : Replica) (c : Call) → GoodReplica r → (room source : ℕ) → Ok r c (timeoutStep r room source)
+unfolding timeoutStep stepUp
+timeoutStep-ok r c g room source =
+    pick-cases (Ok r c) (not (ready r room)) (λ _. kept-ok r c g 1) (λ _.
+    pick-cases (Ok r c) (not (isMember (r .sc) source)) (λ _. kept-ok r c g 2) (λ _.
+    pick-cases (Ok r c) (ignoresTimeout (r .sc) source) (λ _. kept-ok r c g 0) (λ _.
+    pick-cases (λ (n : NextBallot). Ok r c (stepUp r n)) (ltb 254 (r .sc .id) || eqb (r .sc .«bal_max_seen» / 256) 72057594037927935) (λ _. kept-ok r c g 8) (λ _.
+    pick-cases (Ok r c) (ltb (number (r .sc) (firstOpen (r .window))) (r .sc .«exec_bar»)) (λ _. kept-ok r c g 8) (λ a.
+    pick-cases (Ok r c) (leb 64 (firstOpen (r .window))) (λ _. kept-ok r c g 5) (λ b.
+    let q : Grew (r .window) (grown (r .window) (firstOpen (r .window) + 1)) = grew (r .window) g (firstOpen (r .window) + 1) (omega (arith, tests)) in
+    leadOn-ok r c (grown (r .window) (firstOpen (r .window) + 1)) (number (r .sc) (firstOpen (r .window))) (number (r .sc) (lastOpen (r .window))) g q
+    (λ i h. subst (λ (x : Slot). 3 ≤ x .status) (sym (q .each i)) (open-placed (r .window) i (omega (arith, tests))))))))))
+
+-- ── CommitNotice ──
+module _ (r : Replica) (c : Call) (w : Window) (ballot from to : ℕ) (g : GoodReplica r) (q : Grew (r .window) w) (l : from ≤ to) (fits : to ≤ w .len) where
+  abbrev pub stop : ℕ
+  stop = markStop w ballot from to
+
+  abbrev pub noticedW : Window
+  noticedW = sweep (λ i s. markedSlot s) from stop w
+
+  abbrev pub marksAt : ℕ → List Act
+  marksAt i = markActs (number (r .sc) i) (slotAt w i)
+
+  abbrev pub noticed : List Act
+  noticed = gather marksAt from stop
+
+  gw′ : Good (r .sc) w
+  gw′ = good-grew g q
+
+  stop-high : stop ≤ to
+  unfolding markStop
+  stop-high = scan-high (λ i. mayMark ballot (slotAt w i)) from to l
+
+  -- where it marks, the slot is at or above Accepting
+  may : (i : ℕ) → from ≤ i → i < stop → 2 ≤ slotAt w i .status
+  unfolding markStop
+  may i a b = leb-true 2 (slotAt w i .status) (and-right (leb ballot (slotAt w i .ballot)) (leb accepting (slotAt w i .status))
+      (scan-passed (λ i. mayMark ballot (slotAt w i)) from to i a b))
+
+  abbrev pub Noticed : ℕ → Slot → Slot → Type 0
+  Noticed i x y = Turned (view (r .sc) w) (r .sc) (view (r .sc) noticedW) noticed (r .sc .start + i) x y
+
+  noticed-in : (i : ℕ) → from ≤ i → i < stop → leb committed (slotAt w i .status) ≡ false → commitEntry (r .sc .start + i) ∈ noticed
+  noticed-in i a b t = in-gather marksAt from stop i a b (rw t (List·Memᴰ·head refl))
+
+  noticed-turned : (i : ℕ) → from ≤ i → i < stop → GoodSlot (r .sc) (slotAt w i) → Noticed i (slotAt w i) (markedSlot (slotAt w i))
+  noticed-turned i a b k =
+      pick-cases (Noticed i (slotAt w i)) (leb committed (slotAt w i .status)) (λ t. turned-self (slotAt w i) k) (λ t.
+      record {
+        good = record { under = k .under; busy = λ _ _ z. absurd (omega arith); tidy = k .tidy; tidyVote = k .tidyVote };
+        step = kept (may i a b) (λ z. absurd (omega arith)) (record { on = omega arith; at = refl; val = refl });
+        rise = λ _ _. noticed-in i a b t;
+      })
+
+  here : (i : ℕ) → i < stop → placed w i ≡ slotAt w i
+  here i b = placed-in w i (omega (arith, stop-high))
+
+  noticed-each : Each (r .sc) w c 0 (r .sc) noticedW noticed
+  noticed-each i =
+      sweep-cases (Noticed i (placed w i)) (λ i s. markedSlot s) from stop w i (omega (arith, q .wide, q .short))
+      (λ a b _. subst (λ (x : Slot). Noticed i x (markedSlot x)) (sym (here i b)) (noticed-turned i a b (subst (GoodSlot (r .sc)) (here i b) (gw′ .each i))))
+      (λ _. turned-self (placed w i) (gw′ .each i))
+
+  noticed-marked : (i : ℕ) → from ≤ i → i < stop → leb committed (slotAt w i .status) ≡ false
+      → Marked (view (r .sc) w .slot (r .sc .start + i)) (view (r .sc) noticedW .slot (r .sc .start + i))
+  noticed-marked i a b t =
+      at-number (λ (x : Cell). Marked x (view (r .sc) noticedW .slot (r .sc .start + i))) (r .sc .start) w (r .sc .start + i) i refl
+      (at-number (Marked (cell (placed w i))) (r .sc .start) noticedW (r .sc .start + i) i refl
+      (subst (λ (y : Slot). Marked (cell (placed w i)) (cell y))
+      (sym (sweep-at (λ i s. markedSlot s) from stop w i (omega (arith, q .wide, q .short)) a b (omega (arith, stop-high))))
+      (subst (λ (x : Slot). Marked (cell x) (cell (markedSlot x))) (sym (here i b))
+      (rw t (record { was = omega (arith, tests, may i a b); now = omega arith; at = refl; val = refl })))))
+
+  pub markOn-ok : Ok r c (markOn r w from stop)
+  unfolding markOn
+  markOn-ok =
+      grew-ok (r .sc) (r .window) w c 0 (r .sc) noticedW noticed q
+      (assemble (r .sc) w c 0 (r .sc) noticedW noticed gw′ (heads-same gw′ (same-self (r .sc)))
+      (length-over (λ i s. markedSlot s) noSlot from stop (w .slots) ∙ q .wide) (q .short) noticed-each
+      (all-gather marksAt (ActOk (view (r .sc) w) c (view (r .sc) noticedW) noticed) from stop
+      (λ i a b. pick-cases (All (ActOk (view (r .sc) w) c (view (r .sc) noticedW) noticed)) (leb committed (slotAt w i .status)) (λ _. tt)
+      (λ t. (noticed-marked i a b t, tt))))
+      (λ z. absurd (z refl)))
+
+pub commitNoticeStep-ok : (r : Replica) (c : Call) → GoodReplica r → (room peer ballot bar : ℕ) → Ok r c (commitNoticeStep r room peer ballot bar)
+unfolding commitNoticeStep
+commitNoticeStep-ok r c g room peer ballot bar =
+    pick-cases (Ok r c) (not (ready r room)) (λ _. kept-ok r c g 1) (λ _.
+    pick-cases (Ok r c) (not (isPeer (r .sc) peer)) (λ _. kept-ok r c g 2) (λ _.
+    pick-cases (Ok r c) (not (owns ballot peer)) (λ _. kept-ok r c g 3) (λ _.
+    pick-cases (Ok r c) (not (eqb ballot (r .sc .«bal_max_seen»))) (λ _. kept-ok r c g 0) (λ _.
+    pick-cases (Ok r c) (leb bar (r .sc .«commit_bar»)) (λ _. kept-ok r c g 0) (λ a.
+    pick-cases (Ok r c) (ltb (r .sc .start + 64) bar) (λ _. kept-ok r c g 5) (λ b.
+    markOn-ok r c (grown (r .window) (place (r .sc) bar)) ballot (place (r .sc) (r .sc .«commit_bar»)) (place (r .sc) bar) g
+    (grew (r .window) g (place (r .sc) bar) (omega (arith, tests))) (omega (arith, tests)) (len-grown (r .window) (place (r .sc) bar) .0)))))))

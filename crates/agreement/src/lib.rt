@@ -1,0 +1,1 @@
+// The group theorems are in specs/. The crate has no code of its own.
