@@ -96,7 +96,8 @@ fn run(command: Command) -> io::Result<ExitCode> {
     let input = BufReader::with_capacity(BUFFER, io::stdin().lock());
     let mut output = BufWriter::with_capacity(BUFFER, io::stdout().lock());
     match command {
-        Command::Baseline => baseline::replay(io::stdin().lock(), &mut output)?,
+        // It has buffers of its own, and nothing was read yet.
+        Command::Baseline => baseline::replay(input.into_inner(), output.get_mut())?,
         Command::Replay => print_each(input, &mut output, false)?,
         Command::Tell => print_each(input, &mut output, true)?,
         Command::Digest => {

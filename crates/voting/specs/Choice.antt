@@ -1,0 +1,138 @@
+-- The proposer's choice: the batch with which a leader enters Accept is that of the largest voted ballot among the replies that arrived for
+-- the slot while it was Preparing at this ballot, else what the slot held.
+use mathlib.Core.Path.{_≡_, refl, sym, ap, subst, _∙_}
+use mathlib.Core.Bool.{not, _&&_}
+use mathlib.Core.List.{List, [], _∷_}
+use Prim.Native.Nat.{ℕ, _+_, _-_, _≤_, _<_}
+use native.Mathlib.Omega.{arith}
+use lib.Dec.{ltb, leb, eqb}
+use borrow.Author.Tests.{ltb-true}
+use Rattle.base.specs.Pick.{pick-both, pick-cases, and-both}
+use Rattle.base.specs.Among.{All, all-append}
+use Rattle.members.specs.Laws.{next-given, next-larger}
+use Rattle.slots.specs.declared.Vote.{Vote}
+use Rattle.slots.specs.declared.Slot.{Slot}
+use Rattle.slots.specs.Slots.{newBook, redoneSlot, withState, withLeader, withExternal, committed, executed, preparing}
+use Rattle.decide.specs.Scalars.{leads}
+use Rattle.replica.specs.declared.Replica.{Replica}
+use Rattle.replica.specs.declared.Reply.{Reply}
+use Rattle.replica.specs.declared.Entry.{Entry}
+use Rattle.replica.specs.declared.Entry.the-variants.{PrepareBal, AcceptData, CommitSlot as CommitEntry}
+use Rattle.replica.specs.Record.{place, number, sweep, grown}
+use Rattle.replica.specs.Messages.{cleanReply}
+use Rattle.replica.specs.Leadership.{leadOn, lastOpen}
+use Rattle.replica.specs.Step.{Call, callPrepare, callPrepareReply, callAccept, callAcceptReply, callCommitNotice, callTimeout, callLogged, callOffer, callExecuted, callOpenRead, callReadReply, step}
+use Rattle.voting.specs.Paper.{Choice}
+use Rattle.voting.specs.Windows.{atPlace, sweep-cases, whole-grown, grown-most, grown-at, at-past}
+use Rattle.voting.specs.History.{Lent, told, play}
+use Rattle.voting.specs.Claims.{Claim, of}
+use Rattle.voting.specs.Asking.{firstPlace, StepsUp, timeout-way}
+use Rattle.voting.specs.Logging.{afterLog, ownAnswer, ownBook}
+use Rattle.voting.specs.Promises.{step-core}
+use Rattle.voting.specs.Reached.{ready-fits, Good, good-step}
+use Rattle.voting.specs.Heard.{heldBy, heldAt, best, arrives, brings, heard, heardIn, Steady, Reign, best-append, best-choice}
+use Rattle.voting.specs.Held.{held-call}
+
+-- while self leads at one ballot, what a slot holds changes only by replies that arrive for it, to the largest
+pub held-step : (r : Replica) (c : Lent) (s : ℕ) → Good (r .sc) (r .window) → r .sc .start ≤ s → Steady r c s → heldAt (told r c .replica) s ≡ best (heldAt r s) (heard r c s)
+held-step r c s g st k =
+    ap (λ (x : ℕ). heldBy (atPlace (told r c .replica .window) (s - x))) (step-core r c .start)
+    ∙ held-call r (c .room) (c .call) s g st (k .leading) (k .leads-on) (k .same) (k .here)
+
+pub held-play : (r : Replica) (h : List Lent) (s : ℕ) → Good (r .sc) (r .window) → r .sc .start ≤ s → Reign r h s → heldAt (play r h) s ≡ best (heldAt r s) (heardIn r h s)
+held-play r [] s g st k = refl
+held-play r (c ∷ h) s g st k =
+    held-play (told r c .replica) h s (good-step r c g) (omega (arith, step-core r c .start)) (k .1)
+    ∙ ap (λ (v : Vote). best v (heardIn (told r c .replica) h s)) (held-step r c s g st (k .0))
+    ∙ sym (best-append (heldAt r s) (heard r c s) (heardIn (told r c .replica) h s))
+
+-- ── the choice ──
+brings-some : (r : Replica) (m : Reply) (s a : ℕ) → All (λ (v : Vote). 0 < v .ballot) (brings r m s a)
+brings-some r m s a =
+    pick-cases (All (λ (v : Vote). 0 < v .ballot)) (arrives r m s && (eqb a 0 && (m .voted && ltb 0 (m .vote .ballot)))) {a = m .vote ∷ []} {b = []}
+    (λ t.
+    let x = and-both (arrives r m s) _ t in
+    let y = and-both (eqb a 0) _ (x .1) in
+    (ltb-true 0 (m .vote .ballot) (and-both (m .voted) _ (y .1) .1), tt))
+    (λ t. tt)
+
+heard-some : (r : Replica) (room : ℕ) (c : Call) (s : ℕ) → All (λ (v : Vote). 0 < v .ballot) (heard r (record { room = room; call = c }) s)
+heard-some r room (callPrepareReply peer m) s = brings-some r (cleanReply m) s (step r room (callPrepareReply peer m) .answer)
+heard-some r room (callLogged d) s = own (d .entry) refl
+  where
+    own : (e : Entry) → d .entry ≡ e → All (λ (v : Vote). 0 < v .ballot) (heard r (record { room = room; call = callLogged (record { entry = e; slot = d .slot; size = d .size }) }) s)
+    own PrepareBal e =
+        pick-both (All (λ (v : Vote). 0 < v .ballot)) (ownBook r (record { entry = PrepareBal; slot = d .slot; size = d .size }))
+        {a = brings (afterLog r (record { entry = PrepareBal; slot = d .slot; size = d .size })) (ownAnswer r (record { entry = PrepareBal; slot = d .slot; size = d .size })) s (step r room (callLogged (record { entry = PrepareBal; slot = d .slot; size = d .size })) .answer)}
+        {b = []}
+        (brings-some (afterLog r (record { entry = PrepareBal; slot = d .slot; size = d .size })) (ownAnswer r (record { entry = PrepareBal; slot = d .slot; size = d .size })) s (step r room (callLogged (record { entry = PrepareBal; slot = d .slot; size = d .size })) .answer))
+        tt
+    own AcceptData e = tt
+    own CommitEntry e = tt
+heard-some r room (callPrepare peer trigger ballot) s = tt
+heard-some r room (callAccept peer slot ballot b) s = tt
+heard-some r room (callAcceptReply peer slot ballot) s = tt
+heard-some r room (callCommitNotice peer ballot bar) s = tt
+heard-some r room (callTimeout source) s = tt
+heard-some r room (callOffer b) s = tt
+heard-some r room (callExecuted slot) s = tt
+heard-some r room (callOpenRead id count keys) s = tt
+heard-some r room (callReadReply peer id fromLeader reply) s = tt
+
+heard-all : (r : Replica) (h : List Lent) (s : ℕ) → All (λ (v : Vote). 0 < v .ballot) (heardIn r h s)
+heard-all r [] s = tt
+heard-all r (c ∷ h) s =
+    all-append (λ (v : Vote). 0 < v .ballot) (heard r c s) (heardIn (told r c .replica) h s) (heard-some r (c .room) (c .call) s) (heard-all (told r c .replica) h s)
+
+-- 2.2, phase 2 (a): a slot of which nothing was heard yet at this ballot, and any history through which self leads at it: what the slot holds
+-- at its end is the paper's choice among the votes heard, and what the slot held at its start where none was
+pub choice : (r : Replica) (h : List Lent) (s : ℕ) → Good (r .sc) (r .window) → r .sc .start ≤ s → heldAt r s .ballot ≡ 0 → Reign r h s
+    → Choice (heldAt r s .batch) (heardIn r h s) (heldAt (play r h) s .batch)
+choice r h s g st z k =
+    subst (λ (v : Vote). Choice (heldAt r s .batch) (heardIn r h s) (v .batch)) (sym (held-play r h s g st k)) (best-choice (heldAt r s) (heardIn r h s) z (heard-all r h s))
+
+-- nothing was heard of a slot that is not there
+pub absent-unheard : (r : Replica) (s : ℕ) → r .window .len ≤ place (r .sc) s → heldAt r s .ballot ≡ 0
+absent-unheard r s h = ap (λ (x : Slot). x .leader .«prepare_max_bal») (at-past (r .window) (place (r .sc) s) h)
+
+-- nor, after a step-up, of a slot that it prepares: the slot has the new ballot, nothing heard, and the batch that it had
+abbrev begins : Replica → ℕ → Claim
+begins r i a sc w acts =
+    (sc .«bal_prep_sent» ≡ r .sc .«bal_prep_sent» → ⊥) → atPlace w i .ballot ≡ sc .«bal_prep_sent»
+    → (atPlace w i .leader .«prepare_max_bal» ≡ 0) × (atPlace w i .batch ≡ atPlace (r .window) i .batch)
+
+redone-begins : (b seen trigger endprep : ℕ) (s : Slot) → seen < b → s .ballot ≤ seen → redoneSlot b (newBook trigger endprep) s .ballot ≡ b
+    → (redoneSlot b (newBook trigger endprep) s .leader .«prepare_max_bal» ≡ 0) × (redoneSlot b (newBook trigger endprep) s .batch ≡ s .batch)
+redone-begins b seen trigger endprep s l h =
+    pick-both (λ (x : Slot). x .ballot ≡ b → (x .leader .«prepare_max_bal» ≡ 0) × (x .batch ≡ s .batch)) (leb executed (s .status)) {a = s} (λ e. absurd (omega arith))
+    (pick-both (λ (x : Slot). x .ballot ≡ b → (x .leader .«prepare_max_bal» ≡ 0) × (x .batch ≡ s .batch)) (leb committed (s .status))
+    {a = withExternal s}
+    {b = withLeader (withState (withExternal s) b preparing) (newBook trigger endprep)}
+    (λ e. absurd (omega arith)) (λ e. (refl, refl)))
+
+pub step-up-unheard : (r : Replica) (room source s : ℕ) → Good (r .sc) (r .window) → r .sc .start ≤ s
+    → (step r room (callTimeout source) .replica .sc .«bal_prep_sent» ≡ r .sc .«bal_prep_sent» → ⊥)
+    → atPlace (step r room (callTimeout source) .replica .window) (place (r .sc) s) .ballot ≡ step r room (callTimeout source) .replica .sc .«bal_prep_sent»
+    → (atPlace (step r room (callTimeout source) .replica .window) (place (r .sc) s) .leader .«prepare_max_bal» ≡ 0)
+    × (atPlace (step r room (callTimeout source) .replica .window) (place (r .sc) s) .batch ≡ heldAt r s .batch)
+unfolding of leadOn
+step-up-unheard r room source s g st =
+    timeout-way (begins r (place (r .sc) s)) r room source (λ a n. absurd (n refl)) (λ b f n. fresh b f)
+  where
+    fresh : (b : ℕ) → StepsUp r room source b
+        → atPlace (sweep (λ i x. redoneSlot b (newBook (number (r .sc) (firstPlace r)) (number (r .sc) (lastOpen (r .window)))) x) (place (r .sc) (r .sc .«exec_bar»)) (grown (r .window) (firstPlace r + 1) .len) (grown (r .window) (firstPlace r + 1))) (place (r .sc) s) .ballot ≡ b
+        → (atPlace (sweep (λ i x. redoneSlot b (newBook (number (r .sc) (firstPlace r)) (number (r .sc) (lastOpen (r .window)))) x) (place (r .sc) (r .sc .«exec_bar»)) (grown (r .window) (firstPlace r + 1) .len) (grown (r .window) (firstPlace r + 1))) (place (r .sc) s) .leader .«prepare_max_bal» ≡ 0)
+        × (atPlace (sweep (λ i x. redoneSlot b (newBook (number (r .sc) (firstPlace r)) (number (r .sc) (lastOpen (r .window)))) x) (place (r .sc) (r .sc .«exec_bar»)) (grown (r .window) (firstPlace r + 1) .len) (grown (r .window) (firstPlace r + 1))) (place (r .sc) s) .batch ≡ atPlace (r .window) (place (r .sc) s) .batch)
+    fresh b f =
+        let k = next-given (r .sc .«bal_max_seen») (r .sc .id) b (f .next) in
+        let up : r .sc .«bal_max_seen» < b = omega (arith, k .made, next-larger (r .sc .«bal_max_seen») (r .sc .id)) in
+        let at = grown-at (r .window) (firstPlace r + 1) (place (r .sc) s) (g .whole) (omega (arith, f .within)) in
+        let low : atPlace (grown (r .window) (firstPlace r + 1)) (place (r .sc) s) .ballot ≤ r .sc .«bal_max_seen» = omega (arith, ap (λ (x : Slot). x .ballot) at, g .slots (place (r .sc) s)) in
+        sweep-cases
+        (λ (x : Slot). x .ballot ≡ b → (x .leader .«prepare_max_bal» ≡ 0) × (x .batch ≡ atPlace (r .window) (place (r .sc) s) .batch))
+        (λ i x. redoneSlot b (newBook (number (r .sc) (firstPlace r)) (number (r .sc) (lastOpen (r .window)))) x) (place (r .sc) (r .sc .«exec_bar»)) (grown (r .window) (firstPlace r + 1) .len) (grown (r .window) (firstPlace r + 1)) (place (r .sc) s)
+        (whole-grown (r .window) (firstPlace r + 1) (g .whole)) (grown-most (r .window) (firstPlace r + 1) 64 (ready-fits r room (f .fits) .len) (omega (arith, f .within)))
+        (λ x y z e.
+        let q = redone-begins b (r .sc .«bal_max_seen») (number (r .sc) (firstPlace r)) (number (r .sc) (lastOpen (r .window))) (atPlace (grown (r .window) (firstPlace r + 1)) (place (r .sc) s)) up low e in
+        (q .0, q .1 ∙ ap (λ (x : Slot). x .batch) at))
+        (λ e. absurd (omega arith))

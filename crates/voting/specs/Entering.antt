@@ -1,0 +1,177 @@
+-- Every Accept that a reply makes a leader send is of a slot that it brings to Accepting, with the batch that the slot holds after the call.
+use mathlib.Core.Path.{_≡_, sym, ap, _∙_, refl, subst}
+use mathlib.Core.Bool.{Bool}
+use mathlib.Core.List.{List, [], _∷_, List·Memᴰ·not-nil, List·Memᴰ·cases-cons, List·Memᴰ·append-cases, List·Memᴰ·eq-of-singleton, _++_}
+use mathlib.Core.Logic.{_⊎_, inl, inr}
+use Prim.Native.Nat.{ℕ, _+_, _≤_, _<_, _-_}
+use native.Mathlib.Omega.{arith}
+use lib.Dec.{eqb}
+use borrow.Author.Tests.{eqb-true, eq-eqb}
+use Rattle.base.specs.Pick.{pick, pick-cases}
+use Rattle.base.specs.Among.{_∈_}
+use Rattle.base.specs.Gather.{gather-in}
+use Rattle.actions.specs.declared.Action.the-variants.{Accept, AcceptData}
+use Rattle.actions.specs.Actions.{Act, act}
+use Rattle.slots.specs.declared.Slot.{Slot}
+use Rattle.slots.specs.Slots.{preparing, accepting, enteredSlot, withState}
+use Rattle.decide.specs.Decide.{proposal}
+use Rattle.replica.specs.declared.Window.{Window}
+use Rattle.replica.specs.declared.Replica.{Replica}
+use Rattle.replica.specs.declared.Reply.{Reply}
+use Rattle.replica.specs.Record.{place, number, slotAt}
+use Rattle.replica.specs.Messages.{promise, cleanReply, enterActs}
+use Rattle.replica.specs.Step.{callPrepareReply, callLogged, step}
+use Rattle.voting.specs.Windows.{atPlace, Whole, whole-put, whole-appended, sweep-in, at-here, appended-most}
+use Rattle.voting.specs.Claims.{Claim, of}
+use Rattle.voting.specs.Replying.{Replies, widened, weighedWindow, countedWindow, enteredWindow, entersActs, replyActs, ReplyWays, prepare-reply-way}
+use Rattle.voting.specs.Reached.{ready-fits, Good, good-play}
+use Rattle.voting.specs.Quorums.{kindOf}
+use Rattle.replica.specs.declared.Entry.the-variants.{PrepareBal}
+use Rattle.replica.specs.Durability.{entryNumber, loggedOn}
+use Rattle.voting.specs.Logging.{Logs, LogWays, afterLog, ownAnswer, logged-way}
+use Rattle.voting.specs.History.{Lent, told, play}
+use Rattle.voting.specs.Promises.{step-core, play-grows}
+use Rattle.voting.specs.Paper.{Choice}
+use Rattle.voting.specs.Heard.{heldAt, heardIn, Reign}
+use Rattle.voting.specs.Choice.{choice}
+use Rattle.batch.specs.declared.Batch.{Batch}
+
+-- kind 6 is Accept
+abbrev pub Entered : Replica → ℕ → Window → Act → Type 0
+Entered r ballot w x =
+    (i : ℕ) × (i < w .len) × (atPlace w i .status ≡ accepting) × (x ≡ act (Accept (proposal (number (r .sc) i) ballot (atPlace w i .batch))) (atPlace w i .batch .keys))
+
+abbrev enters : Replica → ℕ → Claim
+enters r ballot a sc w acts = (x : Act) → x ∈ acts → kindOf x ≡ 6 → Entered r ballot w x
+
+silent-enters : (r : Replica) (ballot : ℕ) (w : Window) (x : Act) → x ∈ [] → kindOf x ≡ 6 → Entered r ballot w x
+silent-enters r ballot w x m k = absurd (List·Memᴰ·not-nil m)
+
+other-enters : (r : Replica) (ballot : ℕ) (w : Window) (y x : Act) → (kindOf y ≡ 6 → ⊥) → x ∈ (y ∷ []) → kindOf x ≡ 6 → Entered r ballot w x
+other-enters r ballot w y x n m k = absurd (n (sym (ap kindOf (List·Memᴰ·eq-of-singleton m)) ∙ k))
+
+module _ (r : Replica) (peer : ℕ) (m : Reply) (h : Whole (r .window)) (n : r .window .len ≤ 64) where
+  appends : (w : Window) (x : Act) → x ∈ replyActs r m → kindOf x ≡ 6 → Entered r (m .ballot) w x
+  appends w x o k = go (gather-in (λ i. promise (number (r .sc) i) (r .sc .«bal_prep_sent») ∷ []) (r .window .len) (place (r .sc) (m .slot) + 1) o)
+    where
+      go : (i : ℕ) × (r .window .len ≤ i) × (i < place (r .sc) (m .slot) + 1) × (x ∈ (promise (number (r .sc) i) (r .sc .«bal_prep_sent») ∷ [])) → Entered r (m .ballot) w x
+      go (i, lo, hi, o) = other-enters r (m .ballot) w _ x (λ z. omega arith) o k
+
+  whole-counted : Whole (countedWindow r peer m)
+  whole-counted =
+      whole-put (weighedWindow r m) (place (r .sc) (m .trigger)) _
+      (whole-put (widened r m) (place (r .sc) (m .slot)) _ (whole-appended r (place (r .sc) (m .trigger)) (place (r .sc) (m .slot)) h))
+
+  -- the slot at place i, Preparing before, is Accepting after, with its batch
+  enters-at : Replies r m → (i : ℕ) → place (r .sc) (m .trigger) ≤ i → i < countedWindow r peer m .len → slotAt (countedWindow r peer m) i .status ≡ preparing
+      → (x : Act) → x ≡ act (Accept (proposal (number (r .sc) i) (m .ballot) (slotAt (countedWindow r peer m) i .batch))) (slotAt (countedWindow r peer m) i .batch .keys)
+      → Entered r (m .ballot) (enteredWindow r peer m) x
+  enters-at f i lo hi s x e =
+      let u = appended-most r (place (r .sc) (m .trigger)) (place (r .sc) (m .slot)) 64 n (let y = f .within in omega arith) in
+      let z : atPlace (enteredWindow r peer m) i ≡ withState (slotAt (countedWindow r peer m) i) (slotAt (countedWindow r peer m) i .ballot) accepting =
+      sweep-in (λ k v. enteredSlot v) (place (r .sc) (m .trigger)) (countedWindow r peer m .len) (countedWindow r peer m) i whole-counted u lo hi hi
+      ∙ ap enteredSlot (at-here (countedWindow r peer m) i hi)
+      ∙ ap (λ (t : Bool). pick t (withState (slotAt (countedWindow r peer m) i) (slotAt (countedWindow r peer m) i .ballot) accepting) (slotAt (countedWindow r peer m) i)) (eq-eqb _ _ s) in (
+        i,
+        hi,
+        ap (λ (v : Slot). v .status) z,
+        e ∙ ap (λ (v : Slot). act (Accept (proposal (number (r .sc) i) (m .ballot) (v .batch))) (v .batch .keys)) (sym z),
+      )
+
+  enter-one : Replies r m → (x : Act) (i : ℕ) → place (r .sc) (m .trigger) ≤ i → i < countedWindow r peer m .len
+      → x ∈ enterActs (number (r .sc) i) (m .ballot) (slotAt (countedWindow r peer m) i) → kindOf x ≡ 6 → Entered r (m .ballot) (enteredWindow r peer m) x
+  enter-one f x i lo hi =
+      pick-cases (λ (l : List Act). x ∈ l → kindOf x ≡ 6 → Entered r (m .ballot) (enteredWindow r peer m) x) (eqb (slotAt (countedWindow r peer m) i .status) preparing)
+      (λ t o k. two (eqb-true _ _ t) (List·Memᴰ·cases-cons o) k)
+      (λ t o k. silent-enters r (m .ballot) (enteredWindow r peer m) x o k)
+    where
+      two : slotAt (countedWindow r peer m) i .status ≡ preparing
+          → (x ≡ act (AcceptData (proposal (number (r .sc) i) (m .ballot) (slotAt (countedWindow r peer m) i .batch))) (slotAt (countedWindow r peer m) i .batch .keys))
+          ⊎ (x ∈ (act (Accept (proposal (number (r .sc) i) (m .ballot) (slotAt (countedWindow r peer m) i .batch))) (slotAt (countedWindow r peer m) i .batch .keys) ∷ []))
+          → kindOf x ≡ 6 → Entered r (m .ballot) (enteredWindow r peer m) x
+      two s (inl e) k = absurd (let z : _≡_ {A = ℕ} 2 6 = sym (ap kindOf e) ∙ k in omega arith)
+      two s (inr o) k = enters-at f i lo hi s x (List·Memᴰ·eq-of-singleton o)
+
+  reply-enters : ReplyWays (enters r (m .ballot)) r peer m
+  reply-enters =
+      record {
+        passed = λ f t x o k. appends (widened r m) x o k;
+        weighed = λ f w x o k. appends (weighedWindow r m) x o k;
+        counted = λ f w z x o k. appends (countedWindow r peer m) x o k;
+        entered = λ f w z q x o k. both f x k (List·Memᴰ·append-cases (replyActs r m) o);
+      }
+    where
+      both : Replies r m → (x : Act) → kindOf x ≡ 6 → (x ∈ replyActs r m) ⊎ (x ∈ entersActs r peer m) → Entered r (m .ballot) (enteredWindow r peer m) x
+      both f x k (inl o) = appends (enteredWindow r peer m) x o k
+      both f x k (inr o) = go (gather-in (λ i. enterActs (number (r .sc) i) (m .ballot) (slotAt (countedWindow r peer m) i)) (place (r .sc) (m .trigger)) (countedWindow r peer m .len) o)
+        where
+          go : (i : ℕ) × (place (r .sc) (m .trigger) ≤ i) × (i < countedWindow r peer m .len) × (x ∈ enterActs (number (r .sc) i) (m .ballot) (slotAt (countedWindow r peer m) i))
+              → Entered r (m .ballot) (enteredWindow r peer m) x
+          go (i, lo, hi, p) = enter-one f x i lo hi p k
+
+-- 2.2, phase 2 (a): on any record with a window of 64 slots
+pub reply-enters-with : (r : Replica) (room peer : ℕ) (m : Reply) → Whole (r .window) → (x : Act) → x ∈ step r room (callPrepareReply peer m) .actions → kindOf x ≡ 6
+    → Entered r (m .ballot) (step r room (callPrepareReply peer m) .replica .window) x
+unfolding of
+reply-enters-with r room peer m h =
+    prepare-reply-way (enters r (m .ballot)) r room peer m (λ a. silent-enters r (m .ballot) (r .window))
+    (λ a b c. reply-enters r peer (cleanReply m) h (ready-fits r room a .len))
+
+own-enters : (r : Replica) (room slot size : ℕ) → Whole (r .window) → Logs r room (record { entry = PrepareBal; slot = slot; size = size })
+    → LogWays (enters r (ownAnswer r (record { entry = PrepareBal; slot = slot; size = size }) .ballot)) r (record { entry = PrepareBal; slot = slot; size = size })
+unfolding of loggedOn
+own-enters r room slot size h f =
+    let b : ℕ = ownAnswer r (record { entry = PrepareBal; slot = slot; size = size }) .ballot in
+    record {
+      only = silent-enters r b _;
+      own = λ e t u.
+          reply-enters (afterLog r (record { entry = PrepareBal; slot = slot; size = size })) (r .sc .id) (ownAnswer r (record { entry = PrepareBal; slot = slot; size = size }))
+          (whole-put (r .window) (place (r .sc) slot) _ h) (ready-fits r room (f .fits) .len);
+      promised = λ e t u x o k. other-enters r b _ _ x (λ z. omega arith) o k;
+      acks = λ e t u. absurd (let z : _≡_ {A = ℕ} 1 2 = ap entryNumber e in omega arith);
+      still = silent-enters r b _;
+      answered = λ e t u. absurd (let z : _≡_ {A = ℕ} 1 2 = ap entryNumber e in omega arith);
+      passes = λ e. absurd (let z : _≡_ {A = ℕ} 1 3 = ap entryNumber e in omega arith);
+    }
+
+-- and for a leader's own reply, at the end of its PrepareBal entry
+pub own-enters-with : (r : Replica) (room slot size : ℕ) → Whole (r .window) → (x : Act) → x ∈ step r room (callLogged (record { entry = PrepareBal; slot = slot; size = size })) .actions
+    → kindOf x ≡ 6
+    → Entered r (ownAnswer r (record { entry = PrepareBal; slot = slot; size = size }) .ballot) (step r room (callLogged (record { entry = PrepareBal; slot = slot; size = size })) .replica .window) x
+unfolding of
+own-enters-with r room slot size h =
+    logged-way (enters r (ownAnswer r (record { entry = PrepareBal; slot = slot; size = size }) .ballot)) r room (record { entry = PrepareBal; slot = slot; size = size })
+    (λ a. silent-enters r (ownAnswer r (record { entry = PrepareBal; slot = slot; size = size }) .ballot) (r .window))
+    (λ f. own-enters r room slot size h f)
+
+-- ── the whole sentence ──
+play-append : (r : Replica) (h : List Lent) (c : Lent) → play r (h ++ (c ∷ [])) ≡ told (play r h) c .replica
+play-append r [] c = refl
+play-append r (x ∷ h) c = play-append (told r x .replica) h c
+
+-- 2.2, phase 2 (a): from a replica reached from a new one, over any history, each Accept that a reply makes a leader send is of a slot s and a
+-- batch b: where nothing was heard of s at the start (Choice.step-up-unheard, absent-unheard) and self led through all of it at one ballot, b is
+-- the paper's choice among the votes heard, else what the slot held at the start
+pub enters-with-choice : (r : Replica) (h : List Lent) (room peer : ℕ) (m : Reply) → Good (r .sc) (r .window) → (x : Act)
+    → x ∈ step (play r h) room (callPrepareReply peer m) .actions → kindOf x ≡ 6
+    → (s : ℕ) × (b : Batch) × (x ≡ act (Accept (proposal s (m .ballot) b)) (b .keys))
+    × (heldAt r s .ballot ≡ 0 → Reign r (h ++ (record { room = room; call = callPrepareReply peer m } ∷ [])) s
+    → Choice (heldAt r s .batch) (heardIn r (h ++ (record { room = room; call = callPrepareReply peer m } ∷ [])) s) b)
+enters-with-choice r h room peer m g x o k = go (reply-enters-with (play r h) room peer m (good-play r h g .whole) x o k)
+  where
+    go : Entered (play r h) (m .ballot) (step (play r h) room (callPrepareReply peer m) .replica .window) x
+        → (s : ℕ) × (b : Batch) × (x ≡ act (Accept (proposal s (m .ballot) b)) (b .keys))
+        × (heldAt r s .ballot ≡ 0 → Reign r (h ++ (record { room = room; call = callPrepareReply peer m } ∷ [])) s
+        → Choice (heldAt r s .batch) (heardIn r (h ++ (record { room = room; call = callPrepareReply peer m } ∷ [])) s) b)
+    go (i, l, t, e) =
+        let n : ℕ = number (play r h .sc) i in
+        let c : Lent = record { room = room; call = callPrepareReply peer m } in
+        let same : n - told (play r h) c .replica .sc .start ≡ i = omega (arith, step-core (play r h) c .start) in (
+          n,
+          atPlace (step (play r h) room (callPrepareReply peer m) .replica .window) i .batch,
+          e,
+          λ z q.
+              subst (λ (b : Batch). Choice (heldAt r n .batch) (heardIn r (h ++ (c ∷ [])) n) b)
+              (ap (λ (y : Replica). heldAt y n .batch) (play-append r h c) ∙ ap (λ (y : ℕ). atPlace (told (play r h) c .replica .window) y .batch) same)
+              (choice r (h ++ (c ∷ [])) n g (omega (arith, play-grows r h .start)) z q),
+        )
