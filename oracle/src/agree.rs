@@ -186,7 +186,9 @@ fn named_differences(ours: &str, theirs: &str) -> String {
     let numbers = names.iter().zip(ours[letter..].iter().zip(&theirs[letter..]));
     numbers
         .filter(|(_, (one, two))| one != two)
-        .map(|(name, (one, two))| format!("{place}{name} is {one} in the Rust, {two} in the other\n"))
+        .map(|(name, (one, two))| {
+            format!("{place}{name} is {one} in the Rust, {two} in the other\n")
+        })
         .collect()
 }
 

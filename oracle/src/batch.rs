@@ -63,14 +63,14 @@ impl Batch {
         self.id != 0 || self.keys.is_empty()
     }
 
-    /// A marker that is no Put carries the id, so the list is empty exactly when the id is 0;
-    /// a Put for each key follows.
+    /// A marker that is no Put stands first, so the list is empty exactly when the id is 0; a Put
+    /// for each key follows. Every request carries the id.
     pub(crate) fn to_requests(self) -> ReqBatch {
         if self.id == 0 {
             return Vec::new();
         }
         let mut requests = Vec::with_capacity(1 + self.keys.len());
-        let marker = Command::Get { key: self.id.to_string() };
+        let marker = Command::Get { key: String::new() };
         requests.push((0, ApiRequest::Req { id: self.id, cmd: marker }));
         for key in self.keys.as_slice() {
             let put = Command::Put { key: key.to_string(), value: String::new() };
@@ -80,7 +80,7 @@ impl Batch {
     }
 
     pub(crate) fn from_requests(requests: &ReqBatch) -> Self {
-        let mut batch = Batch::default();
+        let mut batch = Batch { id: Batch::id_of(requests), keys: Keys::default() };
         for (_, request) in requests {
             let ApiRequest::Req { cmd, .. } = request else {
                 must_not_be_reached!("a request that is no command");
@@ -90,16 +90,22 @@ impl Batch {
         batch
     }
 
-    /// The marker's id, or one more key.
+    pub(crate) fn id_of(requests: &ReqBatch) -> u64 {
+        match requests.first() {
+            Some((_, ApiRequest::Req { id, .. })) => *id,
+            _ => 0,
+        }
+    }
+
+    /// One more key, if the command is no marker.
     pub(crate) fn add_command(&mut self, command: &Command) {
-        match command {
-            Command::Get { key } => self.id = number(key),
-            Command::Put { key, .. } => self.keys.push(number(key)),
+        if let Command::Put { key, .. } = command {
+            self.keys.push(number(key));
         }
     }
 }
 
-/// Keys, values and ids are decimal numbers in the source's strings.
+/// Keys and values are decimal numbers in the source's strings.
 pub(crate) fn number(text: &str) -> u64 {
     text.parse().expect("keys and values are numbers")
 }

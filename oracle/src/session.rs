@@ -79,7 +79,7 @@ impl Live {
         }
         let past_the_window = refuse::needs_a_slot_past_the_window(&self.replica, call);
         let ended = guard::attempt(|| call.run(&mut self.replica));
-        let actions = actions::take();
+        let actions = actions::take(&self.replica);
         assert_eq!(
             past_the_window,
             ended == Ended::WindowFull,

@@ -1,6 +1,7 @@
 //! The text of a record: `replay`'s line, and the whole state and actions for `tell`.
 
 use crate::action::Action;
+use crate::batch::Batch;
 use crate::host::Replica;
 use crate::host::multipaxos::{Instance, Knowledge, QuorumReadBookkeeping, ReqBatch};
 use crate::server::{ApiRequest, Command};
@@ -137,10 +138,7 @@ impl Text {
 
     /// Batch id, key count, eight keys; the source's strings are the numbers' own digits.
     fn batch(&mut self, requests: &ReqBatch) {
-        let id = match requests.first() {
-            Some((_, ApiRequest::Req { id, .. })) => *id,
-            _ => 0,
-        };
+        let id = Batch::id_of(requests);
         let puts = requests.len().saturating_sub(1);
         self.numbers(&[id, puts as u64]);
         for (_, request) in requests.iter().skip(1) {
@@ -267,7 +265,7 @@ mod tests {
     #[test]
     fn decimals_are_as_rust_prints_them() {
         let powers = (0..20).map(|power| 10_u64.pow(power));
-        let edges = powers.flat_map(|power| [power - 1, power, power + 1, 5 * (power / 2)]);
+        let edges = powers.flat_map(|power| [power - 1, power, power + 1, power / 2]);
         for number in edges.chain(0..=1000).chain([u64::MAX - 1, u64::MAX]) {
             assert_eq!(decimal(number).as_str(), number.to_string());
         }

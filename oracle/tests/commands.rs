@@ -114,16 +114,45 @@ fn a_seed_and_a_profile_fix_a_trace() {
 }
 
 #[test]
-fn a_trace_that_is_not_there_is_an_error() {
-    let output = oracle(&["stats", "no/such.trace"], b"");
+fn the_baseline_prints_replays_lines() {
+    let trace = oracle(&["gen", "8", "2000", "--profile", "mix"], b"").stdout;
+    assert_eq!(printed(&["baseline"], &trace), printed(&["replay"], &trace));
+    assert_eq!(printed(&["baseline"], b""), "");
+}
+
+#[test]
+fn agree_counts_the_records_or_shows_the_first_that_differs() {
+    let sample = concat!(env!("CARGO_MANIFEST_DIR"), "/samples/mix-77.trace");
+    let trace = std::fs::read(sample).expect("a sample");
+    let told = printed(&["tell"], &trace);
+    assert_eq!(printed(&["agree", sample], told.as_bytes()), "2500 records agree\n");
+    let line = told.match_indices("\n1203 ").next().expect("record 1203").0 + 1;
+    let mut other = told.into_bytes();
+    other[line + 5] ^= 1;
+    let output = oracle(&["agree", sample], &other);
     assert_eq!(output.status.code(), Some(1));
-    assert!(String::from_utf8_lossy(&output.stderr).contains("no/such.trace"));
+    let said = String::from_utf8_lossy(&output.stdout);
+    assert!(said.starts_with("record 1203 differs: "), "{said}");
+    assert!(said.contains("\nanswer is "), "{said}");
+}
+
+#[test]
+fn a_trace_that_is_not_there_is_an_error() {
+    for command in ["stats", "agree"] {
+        let output = oracle(&[command, "no/such.trace"], b"");
+        assert_eq!(output.status.code(), Some(1));
+        assert!(output.stdout.is_empty());
+        assert!(String::from_utf8_lossy(&output.stderr).contains("no/such.trace"));
+    }
 }
 
 #[test]
 fn bad_usage_is_an_error() {
-    let bad: [&[&str]; 11] = [
+    let bad: [&[&str]; 14] = [
         &[],
+        &["baseline", "trace"],
+        &["agree"],
+        &["agree", "one.trace", "two.trace"],
         &["play"],
         &["replay", "trace"],
         &["tell", "-"],

@@ -1,5 +1,15 @@
 // The replica: a value. Every call takes it, is lent room for its actions, and hands it back with its answer.
-ghost use mathlib.Core.Path.{_≡_};
+mod added;
+mod completions;
+mod elections;
+mod fit;
+mod messages;
+mod reads_calls;
+mod replies;
+mod searches;
+mod settle;
+mod sweeps;
+
 use batch::KeyTable;
 use decide::PeerBars;
 use decide::Scalars;
@@ -57,4 +67,27 @@ pub struct Done {
     pub entry: Entry,
     pub slot: u64,
     pub size: u64,
+}
+
+// A slot after one turn of a loop, and the place of the next action.
+pub(crate) struct Turned {
+    pub next: usize,
+    pub slot: Slot,
+}
+
+// A window after a loop, and the place of the next action.
+pub(crate) struct Placed {
+    pub next: usize,
+    pub window: Window,
+}
+
+// What a PrepareReply decides: the answer; whether the slot's batch goes into the key table and the slots from the trigger on enter
+// Accept; the scalars, the slot and the trigger's after it.
+pub(crate) struct Weighed {
+    pub answer: u64,
+    pub noted: bool,
+    pub enters: bool,
+    pub sc: Scalars,
+    pub slot: Slot,
+    pub trigger: Slot,
 }

@@ -1,13 +1,14 @@
 //! What the source gave its hubs, as 01's actions.
 
+use super::Replica;
 use super::multipaxos::{PeerMsg, Status, WalEntry};
 use super::recorder::{self, Given};
 use super::server::{ApiReply, ClientId, CommandResult, LogActionId};
 use crate::action::{ALL, Action, Kind};
 use crate::batch::{Batch, number};
 
-/// The actions recorded since the last call.
-pub(crate) fn take() -> Vec<Action> {
+/// The actions recorded since the last call, which the replica has just run.
+pub(crate) fn take(replica: &Replica) -> Vec<Action> {
     let mut actions: Vec<Action> = Vec::new();
     for given in recorder::take() {
         let action = match given {
@@ -20,7 +21,9 @@ pub(crate) fn take() -> Vec<Action> {
             // One Execute for each batch: its first command opens it, the others add their keys.
             Given::Command((slot, place), command) => {
                 let mut execute = if place == 0 {
-                    Action { slot: slot as u64, ..of(Kind::Execute) }
+                    let id = Batch::id_of(&replica.insts[slot - replica.start_slot].reqs);
+                    let batch = Batch::new(id, &[]);
+                    Action { slot: slot as u64, batch, ..of(Kind::Execute) }
                 } else {
                     opened_before(actions.pop(), slot as u64)
                 };

@@ -1,0 +1,96 @@
+use mathlib.Core.Path.{_≡_, _∙_, ap}
+use Prim.Native.Nat.{_≤_, _<_}
+use native.Mathlib.Omega.{arith}
+use Rattle.base.specs.Pick.{larger}
+use Rattle.replica.specs.Messages.{prepareTop}
+use Rattle.replica.specs.ActingLaws.{refuse}
+use Rattle.replica.specs.MessageLaws.{top-within, prepare-above, prepare-told}
+use borrow.Author.Needs.{needs}
+use Rattle.replica.proofs.Replica.prepare_on.Statement.{statement}
+use Rattle.replica.proofs.Replica.prepare_on.Tie as tie
+
+top : (c : tie.After-larger-of) → (c .before .before .before .args .from ≤ c .larger-of .result) × (c .larger-of .result < 64)
+top c =
+    let s = c .before .before .before in
+    top-within (s .args .w) (s .args .from) _ _ (c .before .last-used .ensures) (c .larger-of .ensures) (s .pre .within) (s .pre .inside)
+
+covered : (c : tie.After-larger-of) → c .larger-of .result ≡ prepareTop (c .before .before .before .args .w) (c .before .before .before .args .from)
+covered c = c .larger-of .ensures ∙ ap (larger (c .before .before .before .args .from)) (c .before .last-used .ensures)
+
+last-used-requires : tie.Need-last-used-requires
+last-used-requires c κs = search needs
+
+larger-of-requires : tie.Need-larger-of-requires
+larger-of-requires c κs = search needs
+
+add-end : tie.Need-add-end
+add-end c =
+    let t = top c in
+    omega arith
+
+any-above-requires : tie.Need-any-above-requires
+any-above-requires c κs =
+    let t = top c in
+    omega arith
+
+kept-requires : tie.Need-kept-requires
+kept-requires c κs = search needs
+
+returns : tie.Need-returns
+returns c =
+    let l = c .before .before .before in
+    let a = l .before .before .before .args in
+    refuse 6 (a .self) (c .kept .ensures)
+    (prepare-above (a .self) (a .w) (a .from) (a .peer) (a .ballot) _ (covered l) _ (c .before .before .any-above .ensures) (c .before .if1 .taken))
+
+add-trigger : tie.Need-add-trigger
+add-trigger c = search needs
+
+add-endprep : tie.Need-add-endprep
+add-endprep c =
+    let t = top (c .before .before .before .before .before) in
+    omega arith
+
+put-down-requires : tie.Need-put-down-requires
+put-down-requires c κs = search needs
+
+prepare-range-requires : tie.Need-prepare-range-requires
+prepare-range-requires c κs =
+    let l = c .before .before .before .before .before .before .before .before .before .before in
+    let t = top l in
+    let d = c .before .before .before .put-down .ensures in
+    omega arith
+
+followed-requires : tie.Need-followed-requires
+followed-requires c κs = search needs
+
+same-length : tie.Need-same-length
+same-length c = search needs
+
+returns-2 : tie.Need-returns-2
+returns-2 c =
+    let s = c .before .before .before .before in
+    let k = s .before .before .before .before in
+    let o = k .before .before .before .before .before in
+    let l = o .before .before in
+    let a = l .before .before .before .args in
+    prepare-told (a .self) (a .w) (a .from) (a .peer) (a .ballot) _ (covered l) _ (o .before .any-above .ensures) (o .if1 .left) (k .put-down .ensures) (s .prepare-range .ensures)
+    (c .followed .ensures)
+
+pub prepare-on-spec : {M : Type 1} → statement M
+prepare-on-spec =
+    tie.close
+    (tie.spec
+    last-used-requires
+    larger-of-requires
+    add-end
+    any-above-requires
+    kept-requires
+    returns
+    add-trigger
+    add-endprep
+    put-down-requires
+    prepare-range-requires
+    followed-requires
+    same-length
+    returns-2)

@@ -1,0 +1,146 @@
+use mathlib.Core.Path.{_≡_}
+use mathlib.Core.Bool.{true}
+use native.Mathlib.Omega.{arith}
+use borrow.Author.Tests.{not-true, not-false}
+use Rattle.decide.specs.Scalars.{leads}
+use Rattle.replica.specs.Messages.{inRange}
+use Rattle.replica.specs.FitLaws.{refuted, granted}
+use Rattle.replica.specs.ActingLaws.{refuse, told}
+use Rattle.replica.specs.ReplyLaws.{InLog, range-facts, on-other, on-follower, on-outside, on-bookless, on-past, on-at}
+use borrow.Author.Needs.{needs}
+use Rattle.replica.proofs.Replica.reply_on.Statement.{statement}
+use Rattle.replica.proofs.Replica.reply_on.Tie as tie
+
+-- where the call is entered
+abbrev entry : tie.Else2 → tie.Start
+entry c = c .before .before .before .before .before .before .before
+
+abbrev leading : tie.Else3 → tie.Else2
+leading c = c .before .before .before
+
+-- self leads; the slot and its trigger are in range
+led : (c : tie.Else2) → leads (entry c .args .self .sc) ≡ true
+led c = granted (c .before .leads .ensures) (c .if2 .left)
+
+within : (c : tie.Else3) → inRange (entry (leading c) .args .self) (entry (leading c) .args .m) ≡ true
+within c = granted (c .before .in-range .ensures) (c .if3 .left)
+
+ranged : (c : tie.Else3) → InLog (entry (leading c) .args .self .sc .start) (entry (leading c) .args .self .window .len) (entry (leading c) .args .m)
+ranged c = range-facts _ _ _ (within c)
+
+kept-requires : tie.Need-kept-requires
+kept-requires c κs = search needs
+
+returns : tie.Need-returns
+returns c =
+    let a = c .before .before .before .before .before .before .args in
+    refuse 0 (a .self) (c .kept .ensures) (on-other (a .self) (a .peer) (a .m) (c .before .if1 .taken))
+
+leads-requires : tie.Need-leads-requires
+leads-requires c κs = search needs
+
+kept-requires-2 : tie.Need-kept-requires-2
+kept-requires-2 c κs = search needs
+
+returns-2 : tie.Need-returns-2
+returns-2 c =
+    let l = c .before .before in
+    let e = l .before in
+    let a = e .before .before .before .before .before .args in
+    refuse 4 (a .self) (c .kept2 .ensures) (on-follower (a .self) (a .peer) (a .m) (e .if1 .left) (refuted (l .leads .ensures) (c .before .if2 .taken)))
+
+in-range-requires : tie.Need-in-range-requires
+in-range-requires c κs = search needs
+
+kept-requires-3 : tie.Need-kept-requires-3
+kept-requires-3 c κs = search needs
+
+returns-3 : tie.Need-returns-3
+returns-3 c =
+    let g = c .before .before in
+    let l = g .before .before in
+    let e = l .before .before in
+    let a = e .before .before .before .before .before .args in
+    refuse 6 (a .self) (c .kept3 .ensures) (on-outside (a .self) (a .peer) (a .m) (e .if1 .left) (led l) (refuted (g .in-range .ensures) (c .before .if3 .taken)))
+
+sub-j : tie.Need-sub-j
+sub-j c = ranged (c .before .before) .from
+
+mul-t : tie.Need-mul-t
+mul-t c = let f = ranged (c .before .before) in omega (arith, entry (leading (c .before .before)) .pre)
+
+element-copy-out-t : tie.Need-element-copy-out-t
+element-copy-out-t c = let f = ranged (c .before .before) in omega (arith, entry (leading (c .before .before)) .pre)
+
+kept-requires-4 : tie.Need-kept-requires-4
+kept-requires-4 c κs = search needs
+
+returns-4 : tie.Need-returns-4
+returns-4 c =
+    let g = c .before .before .before .before .before .before in
+    let l = leading g in
+    let e = l .before .before in
+    let a = entry l .args in
+    refuse 0 (a .self) (c .kept4 .ensures) (on-bookless (a .self) (a .peer) (a .m) (e .if1 .left) (led l) (within g) (not-true _ (c .before .if4 .taken)))
+
+add-end : tie.Need-add-end
+add-end c = omega (arith, entry (leading (c .before .before .before .before .before .before)) .pre)
+
+kept-requires-5 : tie.Need-kept-requires-5
+kept-requires-5 c κs = search needs
+
+returns-5 : tie.Need-returns-5
+returns-5 c =
+    let b = c .before .before .before .before in
+    let g = b .before .before .before .before .before in
+    let l = leading g in
+    let e = l .before .before in
+    let a = entry l .args in
+    refuse 5 (a .self) (c .kept5 .ensures) (on-past (a .self) (a .peer) (a .m) (e .if1 .left) (led l) (within g) (not-false _ (b .if4 .left)) (c .before .if5 .taken))
+
+sub-i : tie.Need-sub-i
+sub-i c = omega (arith, entry (leading (c .before .before .before .before .before .before .before .before .before .before)) .pre)
+
+reply-at-requires : tie.Need-reply-at-requires
+reply-at-requires c κs =
+    let f = ranged (c .before .before .before .before .before .before .before .before .before .before .before) in
+    omega (arith, entry (leading (c .before .before .before .before .before .before .before .before .before .before .before)) .pre, c .before .before .before .if5 .left)
+
+same-length : tie.Need-same-length
+same-length c = search needs
+
+returns-6 : tie.Need-returns-6
+returns-6 c =
+    let t = c .before .before in
+    let b5 = t .before .before .before .before in
+    let b = b5 .before .before .before in
+    let g = b .before .before .before .before .before in
+    let l = leading g in
+    let e = l .before .before in
+    let a = entry l .args in
+    told (on-at (a .self) (a .peer) (a .m) (e .if1 .left) (led l) (within g) (not-false _ (b .if4 .left)) (b5 .if5 .left)) (t .reply-at .ensures)
+
+pub reply-on-spec : {M : Type 1} → statement M
+reply-on-spec =
+    tie.close
+    (tie.spec
+    kept-requires
+    returns
+    leads-requires
+    kept-requires-2
+    returns-2
+    in-range-requires
+    kept-requires-3
+    returns-3
+    sub-j
+    mul-t
+    element-copy-out-t
+    kept-requires-4
+    returns-4
+    add-end
+    kept-requires-5
+    returns-5
+    sub-i
+    reply-at-requires
+    same-length
+    returns-6)

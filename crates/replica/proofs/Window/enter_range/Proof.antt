@@ -1,0 +1,84 @@
+use mathlib.Core.Path.{_≡_}
+use Prim.Native.Nat.{_+_, _-_, _*_, _≤_}
+use native.Mathlib.Omega.{arith}
+use lib.ListN.{length}
+use borrow.Author.Needs.{needs}
+use Rattle.slots.specs.Slots.{enteredSlot}
+use Rattle.replica.specs.Messages.{enterActs}
+use Rattle.replica.specs.Sweeps.{Swept}
+use Rattle.replica.specs.SweepLaws.{sweep-start, sweep-turn}
+use Rattle.replica.proofs.Window.enter_range.Statement.{statement}
+use Rattle.replica.proofs.Window.enter_range.Tie as tie
+
+abbrev Inv-loop : tie.InvT-loop
+Inv-loop room₀ k from to start ballot self₀ n₀ i₀ room self n i =
+    Swept (λ j s. enteredSlot s) (λ j s. enterActs (start + j) ballot s) from i k self₀ room₀ (record { next = n; window = self }) room
+    × ((from ≤ i) × ((i ≤ to) × ((n ≤ k + 2 * (i - from)) × (length room ≡ length room₀))))
+
+abbrev μ-loop : tie.MeasureT-loop
+μ-loop room₀ k from to start ballot self₀ n₀ i₀ room self n i = to - i
+
+loop-holds : tie.Need-loop-holds Inv-loop μ-loop
+loop-holds c =
+    let a = c .before .args in
+    (sweep-start (λ j s. enteredSlot s) (λ j s. enterActs (a .start + j) (a .ballot) s) (a .from) (a .k) _ _, omega arith)
+
+mul-s : tie.Need-mul-s Inv-loop μ-loop
+mul-s c = search needs
+
+element-copy-out-s : tie.Need-element-copy-out-s Inv-loop μ-loop
+element-copy-out-s c = search needs
+
+add-slot : tie.Need-add-slot Inv-loop μ-loop
+add-slot c = search needs
+
+enter-one-requires : tie.Need-enter-one-requires Inv-loop μ-loop
+enter-one-requires c κs = search needs
+
+mul-t : tie.Need-mul-t Inv-loop μ-loop
+mul-t c = search needs
+
+element-set-from-t : tie.Need-element-set-from-t Inv-loop μ-loop
+element-set-from-t c = search needs
+
+add-i : tie.Need-add-i Inv-loop μ-loop
+add-i c = search needs
+
+loop-less : tie.Need-loop-less Inv-loop μ-loop
+loop-less c = search needs
+
+loop-again : tie.Need-loop-again Inv-loop μ-loop
+loop-again c =
+    let b = c .before .before .before .before .before .before .before in
+    let a = b .before .before .args in (
+      sweep-turn (λ j s. enteredSlot s) (λ j s. enterActs (a .start + j) (a .ballot) s) (a .from) (a .k) _ _ _ _ _ _ (b .loop .i) (b .loop .inv .1 .0) (omega (arith, b .before .before .pre)) (b .loop .inv .0)
+          (c .before .before .before .enter-one .ensures),
+      omega arith,
+    )
+
+same-length : tie.Need-same-length Inv-loop μ-loop
+same-length c = search needs
+
+returns : tie.Need-returns Inv-loop μ-loop
+returns c =
+    let h : c .before .loop .i ≡ c .before .before .before .args .to = omega arith in
+    rw h at (c .before .loop .inv .0)
+
+pub enter-range-spec : {M : Type 1} → statement M
+enter-range-spec =
+    tie.close
+    (tie.spec
+    Inv-loop
+    μ-loop
+    loop-holds
+    mul-s
+    element-copy-out-s
+    add-slot
+    enter-one-requires
+    mul-t
+    element-set-from-t
+    add-i
+    loop-less
+    loop-again
+    same-length
+    returns)

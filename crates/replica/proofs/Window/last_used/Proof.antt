@@ -1,0 +1,60 @@
+use mathlib.Core.Path.{_≡_, refl}
+use Prim.Native.Nat.{_-_, _≤_}
+use native.Mathlib.Omega.{arith}
+use lib.Dec.{ltb}
+use borrow.Author.Needs.{needs}
+use Rattle.base.specs.Find.{last}
+use Rattle.replica.specs.Record.{slotAt}
+use Rattle.replica.specs.SweepLaws.{last-turn, lastUsed-found}
+use Rattle.replica.proofs.Window.last_used.Statement.{statement}
+use Rattle.replica.proofs.Window.last_used.Tie as tie
+
+abbrev Inv-loop : tie.InvT-loop
+Inv-loop self found₀ i₀ i-end found i = (found ≡ last (λ j. ltb 0 (slotAt self j .status)) 0 i) × (i ≤ self .len)
+
+abbrev μ-loop : tie.MeasureT-loop
+μ-loop self found₀ i₀ i-end found i = self .len - i
+
+loop-holds : tie.Need-loop-holds Inv-loop μ-loop
+loop-holds c = (refl, omega arith)
+
+mul-s : tie.Need-mul-s Inv-loop μ-loop
+mul-s c = search needs
+
+element-copy-out-s : tie.Need-element-copy-out-s Inv-loop μ-loop
+element-copy-out-s c = search needs
+
+chosen-requires : tie.Need-chosen-requires Inv-loop μ-loop
+chosen-requires c κs = search needs
+
+add-i : tie.Need-add-i Inv-loop μ-loop
+add-i c = search needs
+
+loop-less : tie.Need-loop-less Inv-loop μ-loop
+loop-less c = search needs
+
+loop-again : tie.Need-loop-again Inv-loop μ-loop
+loop-again c =
+    let b = c .before .before .before .before in
+    let w = b .before .args .t1 in
+    (last-turn (λ j. ltb 0 (slotAt w j .status)) 0 (b .loop .i) _ _ (b .loop .inv .0) (c .chosen .ensures), omega arith)
+
+returns : tie.Need-returns Inv-loop μ-loop
+returns c =
+    let b = c .before in
+    lastUsed-found (b .before .args .t1) _ (b .loop .i) (b .loop .inv .0) (omega arith)
+
+pub last-used-spec : {M : Type 1} → statement M
+last-used-spec =
+    tie.close
+    (tie.spec
+    Inv-loop
+    μ-loop
+    loop-holds
+    mul-s
+    element-copy-out-s
+    chosen-requires
+    add-i
+    loop-less
+    loop-again
+    returns)

@@ -1,0 +1,49 @@
+-- A log completion inside the crate: what its functions may count on, and what the notice hands back.
+use mathlib.Core.Path.{_≡_}
+use mathlib.Core.Bool.{Bool, _&&_}
+use mathlib.Core.List.{List}
+use Prim.Native.Nat.{ℕ, _+_, _≤_, _<_}
+use lib.Dec.{ltb, eqb}
+use lib.ListN.{length}
+use Rattle.actions.specs.Actions.{Act, writeAt}
+use Rattle.decide.specs.declared.Scalars.{Scalars}
+use Rattle.decide.specs.Scalars.{leads, urgent}
+use Rattle.replica.specs.declared.Replica.{Replica}
+
+-- Durability.noticeActs, its test: a leader that notifies urgently has committed its whole log, at the ballot that it prepared
+abbrev pub notifies : Scalars → ℕ → ℕ → Bool
+notifies sc bar end = eqb bar end && (leads sc && (ltb 0 (sc .«bal_prepared») && (eqb (sc .«bal_prepared») (sc .«bal_max_seen») && urgent sc)))
+
+-- the bars lie in the log, and the log in the window
+pub record BarsFit (r : Replica) : Type 0 where
+  pub low : r .sc .start ≤ 4294967296
+  pub within : r .window .len ≤ 64
+  pub commit-low : r .sc .start ≤ r .sc .«commit_bar»
+  pub commit-high : r .sc .«commit_bar» ≤ r .sc .start + r .window .len
+  pub accept-low : r .sc .start ≤ r .sc .«accept_bar»
+  pub accept-high : r .sc .«accept_bar» ≤ r .sc .start + r .window .len
+
+-- the slot named is the one at place i, with room for 192 actions
+pub record DoneFits (r : Replica) (i slot : ℕ) (room : List ℕ) : Type 0 where
+  pub bars : BarsFit r
+  pub here : i < r .window .len
+  pub named : slot ≡ r .sc .start + i
+  pub long : 3456 ≤ length room
+
+-- the bars alone, with room for 192 actions
+pub record CommitFits (r : Replica) (room : List ℕ) : Type 0 where
+  pub bars : BarsFit r
+  pub long : 3456 ≤ length room
+
+-- commit_bar walks from one place of the window to another
+pub record PassFits (r : Replica) (from stop : ℕ) (room : List ℕ) : Type 0 where
+  pub low : r .sc .start ≤ 4294967296
+  pub within : r .window .len ≤ 64
+  pub ordered : from ≤ stop
+  pub high : stop ≤ 64
+  pub long : 3456 ≤ length room
+
+-- actions written from the n-th place on, and the next place
+pub record Wrote (acts : List Act) (n : ℕ) (room : List ℕ) (m : ℕ) (after : List ℕ) : Type 0 where
+  pub next : m ≡ n + length acts
+  pub written : after ≡ writeAt room n acts

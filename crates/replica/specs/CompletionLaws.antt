@@ -1,0 +1,374 @@
+-- The laws of a log completion: each way through its functions, and that a refusal by the entry's handler leaves the room as it was.
+use mathlib.Core.Path.{_≡_, refl, sym, ap, _∙_}
+use mathlib.Core.Bool.{Bool, true, false, not, _&&_, and-false}
+use mathlib.Core.Logic.{⊎-elim}
+use mathlib.Core.List.{List, [], _∷_, _++_}
+use Prim.Native.Nat.{ℕ, _+_, _-_, _≤_, _<_}
+use native.Mathlib.Nat.{add-zero, zero-add}
+use native.Mathlib.Omega.{arith}
+use lib.Dec.{ltb, leb, eqb}
+use lib.ListN.{length, set, length-append}
+use borrow.Author.Tests.{lt-ltb, le-ltb, le-leb, lt-leb, eq-eqb, ne-eqb, eqb-true}
+use Rattle.base.specs.Pick.{pick, pick-both, pick-cases, decide, tests}
+use Rattle.base.specs.Gather.{gather}
+use Rattle.base.specs.Scan.{scan, scan-low, scan-high, scan-end}
+use Rattle.batch.specs.declared.Batch.{Batch}
+use Rattle.batch.specs.Keys.{overfull}
+use Rattle.actions.specs.declared.Action.the-variants.{CommitNotice}
+use Rattle.actions.specs.Actions.{Act, bare, writeAt, writeActions}
+use Rattle.actions.specs.Laws.{write-none, write-then}
+use Rattle.slots.specs.declared.Vote.{Vote}
+use Rattle.slots.specs.declared.Slot.{Slot}
+use Rattle.slots.specs.Slots.{loggedSlot, passedSlot}
+use Rattle.decide.specs.declared.Scalars.{Scalars}
+use Rattle.decide.specs.declared.Decided.{Decided}
+use Rattle.decide.specs.Scalars.{leads, urgent, withBars, withOffset}
+use Rattle.decide.specs.Decide.{sentVote, decidePromised, decideAccepted}
+use Rattle.decide.specs.Laws.{Steady, Settles, done, refused, settles-accepted}
+use Rattle.replica.specs.declared.Window.{Window}
+use Rattle.replica.specs.declared.Placed.{Placed}
+use Rattle.replica.specs.declared.Replica.{Replica}
+use Rattle.replica.specs.declared.Reply.{Reply}
+use Rattle.replica.specs.declared.Handled.{Handled}
+use Rattle.replica.specs.declared.Entry.{Entry}
+use Rattle.replica.specs.declared.Entry.the-variants.{PrepareBal, AcceptData, CommitSlot}
+use Rattle.replica.specs.declared.Done.{Done}
+use Rattle.replica.specs.Record.{Outcome, kept, noting, settled, withWindow, place, number, logEnd, slotAt, putSlot}
+use Rattle.replica.specs.Fit.{ready}
+use Rattle.replica.specs.Messages.{appended, appendActs, tabled, repliedOn, orKept, inRange, replyOn}
+use Rattle.replica.specs.Durability.{ownReply, preparedDone, movedAccept, thenMoved, acceptedDone, passActs, noticeActs, passOn, passStop, committedDone, doneOn, loggedOn, loggedStep}
+use Rattle.replica.specs.Step.{Told}
+use Rattle.replica.specs.Sweeps.{passes, Swept}
+use Rattle.replica.specs.SweepLaws.{passes-status}
+use Rattle.replica.specs.AdmitLaws.{Ready, unready-kept, ready-goes}
+use Rattle.replica.specs.ActingLaws.{acted, told}
+use Rattle.replica.specs.Replying.{ReplyFits}
+use Rattle.replica.specs.CompletionFits.{notifies, BarsFit, DoneFits, PassFits, Wrote}
+
+-- ── the notice: the test that decides whether it is sent, then what is written ──
+module _ (sc : Scalars) (bar end : ℕ) where
+  pub silent-end : (bar ≡ end → ⊥) → false ≡ notifies sc bar end
+  silent-end h = rw (ne-eqb bar end h)
+
+  pub silent-follower : (sc .leader ≡ sc .id → ⊥) → false ≡ notifies sc bar end
+  silent-follower h = rw (ne-eqb (sc .leader) (sc .id) h, and-false)
+
+  pub silent-unprepared : sc .«bal_prepared» ≡ 0 → false ≡ notifies sc bar end
+  silent-unprepared h = rw (le-ltb 0 (sc .«bal_prepared») (omega arith), and-false, and-false)
+
+  pub silent-outdated : (sc .«bal_prepared» ≡ sc .«bal_max_seen» → ⊥) → false ≡ notifies sc bar end
+  silent-outdated h = rw (ne-eqb (sc .«bal_prepared») (sc .«bal_max_seen») h, and-false, and-false, and-false)
+
+  pub notifies-last : bar ≡ end → sc .leader ≡ sc .id → (sc .«bal_prepared» ≡ 0 → ⊥) → sc .«bal_prepared» ≡ sc .«bal_max_seen» → urgent sc ≡ notifies sc bar end
+  notifies-last a b c d =
+      rw (
+        eq-eqb bar end a,
+        eq-eqb (sc .leader) (sc .id) b,
+        lt-ltb 0 (sc .«bal_prepared») (omega arith),
+        eq-eqb (sc .«bal_prepared») (sc .«bal_max_seen») d,
+      )
+
+  -- what is written, by whether commit_bar stood still and by the test
+  module _ (still : Bool) (n : ℕ) (room : List ℕ) where
+    abbrev said : List Act
+    said = pick still [] (noticeActs sc bar end)
+
+    wrote-none : said ≡ [] → Wrote said n room n room
+    wrote-none e = record { next = rw e (sym (add-zero n)); written = rw e (sym (write-none room n)) }
+
+    pub notice-still : still ≡ true → Wrote said n room n room
+    notice-still e = wrote-none (rw e)
+
+    pub notice-none : still ≡ false → notifies sc bar end ≡ false → Wrote said n room n room
+    notice-none e f = wrote-none (rw (e, f))
+
+    pub notice-one : (after : List ℕ) → still ≡ false → notifies sc bar end ≡ true
+        → after ≡ writeAt room n (bare (CommitNotice (record { ballot = sc .«bal_max_seen»; bar = bar })) ∷ []) → Wrote said n room (n + 1) after
+    notice-one after e f w =
+        let s : said ≡ bare (CommitNotice (record { ballot = sc .«bal_max_seen»; bar = bar })) ∷ [] = rw (e, f) in
+        record { next = rw s; written = rw s w }
+
+-- ── commit_bar ──
+-- where a search that may be of no range stops
+pub scan-below : (p : ℕ → Bool) (from to k : ℕ) → from ≤ k → to ≤ k → scan p from to ≤ k
+scan-below p from to k a b =
+    ⊎-elim
+    (λ (t : leb from to ≡ true). omega (arith, scan-high p from to (omega (arith, tests))))
+    (λ (t : leb from to ≡ false). omega (arith, scan-end p from to (omega (arith, tests))))
+    (decide (leb from to))
+
+module _ (r : Replica) (from stop : ℕ) where
+  abbrev passedWith : Scalars → Window → Replica
+  passedWith sc w = record { sc = sc; bars = r .bars; window = w; keys = r .keys; reads = r .reads }
+
+  -- as the code has it: the slots passed from the room's front on, then the notice
+  pub passed-told : (p : Placed) (sc : Scalars) (bar end n : ℕ) (room mid after : List ℕ) → bar ≡ r .sc .start + stop → end ≡ logEnd r
+      → Swept (λ i s. passedSlot s) (λ i s. passActs (r .sc .start + i) s) from stop 0 (r .window) room p mid
+      → Wrote (pick (eqb from stop) [] (noticeActs (r .sc) bar end)) (p .next) mid n after
+      → sc ≡ withBars (r .sc) (r .sc .«accept_bar») bar (r .sc .«exec_bar»)
+      → Told (passOn r from stop) (record { answer = 0; count = n; replica = passedWith sc (p .window) }) room after
+  unfolding passOn
+  passed-told p sc bar end n room mid after b e s w f =
+      let first : List Act = gather (λ i. passActs (number (r .sc) i) (slotAt (r .window) i)) from stop in
+      let then : List Act = pick (eqb from stop) [] (noticeActs (r .sc) bar end) in
+      acted (first ++ then) (passedWith sc (p .window)) n refl
+      (w .next ∙ ap (λ (x : ℕ). x + length then) (s .next ∙ zero-add (length first)) ∙ sym (length-append first then))
+      (write-then room mid after first then 0 (p .next) (omega arith) (s .next) (s .written) (w .written))
+      (rw (f, s .window, b, e))
+
+  pub pass-fits : (to : ℕ) (room : List ℕ) → BarsFit r → 3456 ≤ length room → from ≤ 64 → to ≤ 64 → stop ≡ scan (passes (r .window) 0 3) from to
+      → PassFits r from stop room
+  pass-fits to room f l a b e =
+      record {
+        low = f .low;
+        within = f .within;
+        ordered = omega (arith, e, scan-low (passes (r .window) 0 3) from to);
+        high = omega (arith, e, scan-below (passes (r .window) 0 3) from to 64 a b);
+        long = l;
+      }
+
+module _ (r : Replica) (slot : ℕ) where
+  pub committed-kept : (slot ≡ r .sc .«commit_bar» → ⊥) → committedDone r slot ≡ kept 0 r
+  unfolding committedDone
+  committed-kept h = rw (ne-eqb slot (r .sc .«commit_bar») h)
+
+  pub committed-passes : (stop : ℕ) → slot ≡ r .sc .«commit_bar»
+      → stop ≡ scan (passes (r .window) 0 3) (r .sc .«commit_bar» - r .sc .start) (r .sc .«accept_bar» - r .sc .start)
+      → committedDone r slot ≡ passOn r (r .sc .«commit_bar» - r .sc .start) stop
+  unfolding committedDone passStop
+  committed-passes stop h e =
+      rw (eq-eqb slot (r .sc .«commit_bar») h)
+      (ap (passOn r (r .sc .«commit_bar» - r .sc .start)) (sym (e ∙ passes-status (r .window) 3 _ _)))
+
+-- ── accept_bar ──
+module _ (r : Replica) (slot : ℕ) where
+  pub moved-kept : (slot ≡ r .sc .«accept_bar» → ⊥) → r ≡ movedAccept r slot
+  unfolding movedAccept
+  moved-kept h = rw (ne-eqb slot (r .sc .«accept_bar») h)
+
+  pub moved-high : (stop : ℕ) → BarsFit r → stop ≡ scan (passes (r .window) 0 2) (r .sc .«accept_bar» - r .sc .start) (r .window .len) → stop ≤ 64
+  moved-high stop f e =
+      omega (arith, e, scan-below (passes (r .window) 0 2) (r .sc .«accept_bar» - r .sc .start) (r .window .len) 64 (omega (arith, f .accept-high, f .within)) (f .within))
+
+  pub moved-on : (sc : Scalars) (stop bar : ℕ) → slot ≡ r .sc .«accept_bar»
+      → stop ≡ scan (passes (r .window) 0 2) (r .sc .«accept_bar» - r .sc .start) (r .window .len) → bar ≡ r .sc .start + stop
+      → sc ≡ withBars (r .sc) bar (r .sc .«commit_bar») (r .sc .«exec_bar»)
+      → record { sc = sc; bars = r .bars; window = r .window; keys = r .keys; reads = r .reads } ≡ movedAccept r slot
+  unfolding movedAccept
+  moved-on sc stop bar h e b f =
+      rw (eq-eqb slot (r .sc .«accept_bar») h, f, b, e ∙ passes-status (r .window) 2 (r .sc .«accept_bar» - r .sc .start) (r .window .len))
+
+-- what is settled for one slot leaves the bars and the log as they were
+pub bars-kept : (r p : Replica) → Steady (r .sc) (p .sc) → p .window .len ≡ r .window .len → BarsFit r → BarsFit p
+bars-kept r p s l f =
+    record {
+      low = omega (arith, f .low, s .start);
+      within = omega (arith, f .within, l);
+      commit-low = omega (arith, f .commit-low, s .start, s .commit);
+      commit-high = omega (arith, f .commit-high, s .start, s .commit, l);
+      accept-low = omega (arith, f .accept-low, s .start, s .accept);
+      accept-high = omega (arith, f .accept-high, s .start, s .accept, l);
+    }
+
+module _ (r : Replica) (f : BarsFit r) where
+  abbrev Fine : Outcome → Type 0
+  Fine o = BarsFit (o .replica)
+
+  noting-bars : (t : Bool) (slot : ℕ) (b : Batch) (o : Outcome) → BarsFit (o .replica) → BarsFit (noting r t slot b o .replica)
+  unfolding noting
+  noting-bars t slot b o g =
+      pick-both Fine (not (t && eqb (o .answer) 0)) g
+      (pick-both Fine (overfull (r .keys) b) f
+      (record { low = g .low; within = g .within; commit-low = g .commit-low; commit-high = g .commit-high; accept-low = g .accept-low; accept-high = g .accept-high }))
+
+  pub settled-bars : (i slot : ℕ) (s : Slot) (d : Decided) → Settles (r .sc) s d → BarsFit (settled r (r .window) i slot d .replica)
+  unfolding settled
+  settled-bars i slot s d (done e k) =
+      pick-both Fine (not (eqb (d .answer) 0)) f
+      (noting-bars (d .noted) slot (d .slot .batch) _ (bars-kept r (withWindow r (d .sc) (putSlot (r .window) i (d .slot))) k refl f))
+  settled-bars i slot s d (refused e) = rw e f
+
+module _ (r : Replica) (i slot : ℕ) (s : Slot) where
+  abbrev settledVote : Outcome
+  settledVote = settled r (r .window) i slot (decideAccepted (r .sc) s slot)
+
+  module _ {h : Handled} {room after : List ℕ} (d : Decided) (e : d ≡ decideAccepted (r .sc) s slot) (t : Told (settled r (r .window) i slot d) h room after) where
+    pub accepted-refused : (h .answer ≡ 0 → ⊥) → Told (acceptedDone r i slot s) h room after
+    unfolding acceptedDone
+    accepted-refused n =
+        let u : Told settledVote h room after = rw e at t in
+        told (rw (ne-eqb (settledVote .answer) 0 (λ z. n (ap (λ (x : Handled). x .answer) (u .handed) ∙ z)))) u
+
+    pub accepted-bars : BarsFit r → BarsFit (h .replica)
+    accepted-bars f = rw (t .handed, e) (settled-bars r f i slot s (decideAccepted (r .sc) s slot) (settles-accepted (r .sc) s slot))
+
+    pub accepted-moved : (m : Replica) → h .answer ≡ 0 → m ≡ movedAccept (h .replica) slot
+        → Told (acceptedDone r i slot s) (record { answer = 0; count = h .count; replica = m }) room after
+    unfolding acceptedDone
+    accepted-moved m z g =
+        let u : Told settledVote h room after = rw e at t in
+        let a : settledVote .answer ≡ 0 = sym (ap (λ (x : Handled). x .answer) (u .handed)) ∙ z in
+        rw (eq-eqb (settledVote .answer) 0 a) (record { handed = rw (g, u .handed); written = u .written })
+
+-- ── PrepareBal ──
+pub own-reply : (sc : Scalars) (s : Slot) (slot : ℕ) (v : Vote) → v ≡ sentVote s
+    → record {
+      slot = slot;
+      trigger = s .leader .trigger;
+      endprep = s .leader .endprep;
+      ballot = s .ballot;
+      voted = ltb 0 (s .vote .ballot);
+      vote = v;
+      bar = sc .«accept_bar»;
+    }
+    ≡ ownReply sc s slot
+own-reply sc s slot v e = rw e
+
+module _ (r : Replica) (i slot : ℕ) (s : Slot) where
+  pub prepared-follows : (d : Decided) → (r .sc .leader ≡ r .sc .id → ⊥) → d ≡ decidePromised (r .sc) s slot
+      → preparedDone r i slot s ≡ settled r (r .window) i slot d
+  unfolding preparedDone
+  prepared-follows d h e = rw (ne-eqb (r .sc .leader) (r .sc .id) h, e)
+
+  module _ (l : r .sc .leader ≡ r .sc .id) where
+    pub prepared-unbooked : s .leader .present ≡ false → preparedDone r i slot s ≡ kept 0 r
+    unfolding preparedDone
+    prepared-unbooked e = rw (eq-eqb (r .sc .leader) (r .sc .id) l, e)
+
+    pub prepared-past : s .leader .endprep < slot → preparedDone r i slot s ≡ kept 0 r
+    unfolding preparedDone
+    prepared-past h = rw (eq-eqb (r .sc .leader) (r .sc .id) l, lt-leb slot (s .leader .endprep) h, and-false)
+
+    pub prepared-replies : (m : Reply) → s .leader .present ≡ true → slot ≤ s .leader .endprep → m ≡ ownReply (r .sc) s slot
+        → preparedDone r i slot s ≡ replyOn r (r .sc .id) m
+    unfolding preparedDone
+    prepared-replies m e h f = rw (eq-eqb (r .sc .leader) (r .sc .id) l, e, le-leb slot (s .leader .endprep) h, f)
+
+  pub own-fits : (room : List ℕ) (m : Reply) → DoneFits r i slot room → m ≡ ownReply (r .sc) s slot → ReplyFits r room m
+  own-fits room m f e =
+      record { long = f .long; low = f .bars .low; within = f .bars .within; from = rw e (omega (arith, f .named)) }
+
+-- ── a refusal by the entry's handler gives no actions ──
+pub record Quiet (o : Outcome) : Type 0 where
+  pub none : (o .answer ≡ 0 → ⊥) → o .actions ≡ []
+
+kept-quiet : (n : ℕ) (r : Replica) → Quiet (kept n r)
+kept-quiet n r = record { none = λ h. refl }
+
+done-only : (r : Replica) (acts : List Act) → Quiet (record { answer = 0; replica = r; actions = acts })
+done-only r acts = record { none = λ h. absurd (h refl) }
+
+orKept-quiet : (r : Replica) (o : Outcome) → Quiet (orKept r o)
+orKept-quiet r o = pick-cases Quiet (eqb (o .answer) 0) (λ t. record { none = λ h. absurd (h (eqb-true (o .answer) 0 t)) }) (λ t. kept-quiet (o .answer) r)
+
+noting-quiet : (r : Replica) (t : Bool) (slot : ℕ) (b : Batch) (o : Outcome) → Quiet o → Quiet (noting r t slot b o)
+unfolding noting
+noting-quiet r t slot b o q =
+    pick-both Quiet (not (t && eqb (o .answer) 0)) q (pick-both Quiet (overfull (r .keys) b) (kept-quiet 7 r) (done-only _ _))
+
+settled-quiet : (r : Replica) (w : Window) (i slot : ℕ) (d : Decided) → Quiet (settled r w i slot d)
+unfolding settled
+settled-quiet r w i slot d =
+    pick-both Quiet (not (eqb (d .answer) 0)) (kept-quiet (d .answer) r) (noting-quiet r (d .noted) slot (d .slot .batch) _ (done-only _ _))
+
+reply-quiet : (r : Replica) (peer : ℕ) (m : Reply) → Quiet (replyOn r peer m)
+unfolding replyOn
+reply-quiet r peer m =
+    pick-both Quiet (not (eqb (m .ballot) (r .sc .«bal_prep_sent»))) (kept-quiet 0 r)
+    (pick-both Quiet (not (leads (r .sc))) (kept-quiet 4 r)
+    (pick-both Quiet (not (inRange r m)) (kept-quiet 6 r)
+    (pick-both Quiet (not (slotAt (r .window) (place (r .sc) (m .trigger)) .leader .present)) (kept-quiet 0 r)
+    (pick-both Quiet (leb (r .sc .start + 64) (m .slot)) (kept-quiet 5 r)
+    (orKept-quiet r
+    (repliedOn (tabled r peer (m .bar)) (appended r (place (r .sc) (m .trigger)) (place (r .sc) (m .slot))) (place (r .sc) (m .slot)) (place (r .sc) (m .trigger)) peer m
+    (appendActs r (place (r .sc) (m .slot)))))))))
+
+moved-quiet : (slot : ℕ) (o : Outcome) → Quiet o → Quiet (thenMoved slot o)
+moved-quiet slot o q = pick-both Quiet (not (eqb (o .answer) 0)) q (done-only _ _)
+
+pub done-quiet : (r : Replica) (i slot : ℕ) (e : Entry) → Quiet (doneOn r i slot e)
+unfolding preparedDone acceptedDone committedDone passOn
+done-quiet r i slot PrepareBal =
+    pick-both Quiet (leads (r .sc))
+    (pick-both Quiet (slotAt (r .window) i .leader .present && leb slot (slotAt (r .window) i .leader .endprep)) (reply-quiet r _ _) (kept-quiet 0 r))
+    (settled-quiet r _ i slot _)
+done-quiet r i slot AcceptData = moved-quiet slot _ (settled-quiet r _ i slot _)
+done-quiet r i slot CommitSlot = pick-both Quiet (not (eqb slot (r .sc .«commit_bar»))) (kept-quiet 0 r) (done-only _ _)
+
+-- ── the whole ──
+module _ (r : Replica) (i size : ℕ) where
+  pub logged-on : (t : Slot) (sc : Scalars) → t ≡ loggedSlot (r .sc .«wal_offset») (slotAt (r .window) i) → sc ≡ withOffset (r .sc) size
+      → record { sc = sc; bars = r .bars; window = record { len = r .window .len; slots = set (r .window .slots) i t }; keys = r .keys; reads = r .reads } ≡ loggedOn r i size
+  unfolding loggedOn
+  logged-on t sc e f = rw (e, f)
+
+  pub logged-fits : (p : Replica) (slot : ℕ) (room : List ℕ) → p ≡ loggedOn r i size → Ready r (length room) → i < r .window .len → slot ≡ r .sc .start + i
+      → DoneFits p i slot room
+  unfolding loggedOn
+  logged-fits p slot room e f h n =
+      rw e (record {
+        bars = record {
+          low = f .low;
+          within = f .within;
+          commit-low = omega (arith, f .exec-low, f .exec-high);
+          commit-high = f .commit-high;
+          accept-low = f .accept-low;
+          accept-high = f .accept-high;
+        };
+        here = h;
+        named = n;
+        long = f .long;
+      })
+
+module _ (r : Replica) (room : ℕ) (d : Done) where
+  pub logged-unready : ready r room ≡ false → loggedStep r room d ≡ kept 1 r
+  unfolding loggedStep
+  logged-unready e = unready-kept r room _ e
+
+  module _ (e : ready r room ≡ true) where
+    pub logged-below : d .slot < r .sc .start → loggedStep r room d ≡ kept 0 r
+    unfolding loggedStep
+    logged-below h = ready-goes r room _ e ∙ rw (lt-ltb (d .slot) (r .sc .start) h)
+
+    module _ (h : r .sc .start ≤ d .slot) where
+      pub logged-past : logEnd r ≤ d .slot → loggedStep r room d ≡ kept 4 r
+      unfolding loggedStep
+      logged-past k = ready-goes r room _ e ∙ rw (le-ltb (d .slot) (r .sc .start) h, le-leb (logEnd r) (d .slot) k)
+
+      module _ (k : d .slot < logEnd r) where
+        pub logged-short : d .size < r .sc .«wal_offset» → loggedStep r room d ≡ kept 6 r
+        unfolding loggedStep
+        logged-short o =
+            ready-goes r room _ e ∙ rw (le-ltb (d .slot) (r .sc .start) h, lt-leb (logEnd r) (d .slot) k, lt-ltb (d .size) (r .sc .«wal_offset») o)
+
+        module _ (o : r .sc .«wal_offset» ≤ d .size) where
+          abbrev handler : Outcome
+          handler = doneOn (loggedOn r (place (r .sc) (d .slot)) (d .size)) (place (r .sc) (d .slot)) (d .slot) (d .entry)
+
+          goes : loggedStep r room d ≡ orKept r handler
+          unfolding loggedStep
+          goes =
+              ready-goes r room _ e
+              ∙ rw (le-ltb (d .slot) (r .sc .start) h, lt-leb (logEnd r) (d .slot) k, le-ltb (d .size) (r .sc .«wal_offset») o)
+
+          module _ (p : Replica) (q : p ≡ loggedOn r (place (r .sc) (d .slot)) (d .size)) {g : Handled} {before after : List ℕ}
+              (t : Told (doneOn p (place (r .sc) (d .slot)) (d .slot) (d .entry)) g before after) where
+            handler-told : Told handler g before after
+            handler-told = rw q at t
+
+            pub logged-done : g .answer ≡ 0 → Told (loggedStep r room d) g before after
+            logged-done z =
+                let u = handler-told in
+                let a : handler .answer ≡ 0 = sym (ap (λ (x : Handled). x .answer) (u .handed)) ∙ z in
+                told (goes ∙ ap (λ (b : Bool). pick b handler (kept (handler .answer) r)) (eq-eqb (handler .answer) 0 a)) u
+
+            pub logged-refused : (x : Handled) → (g .answer ≡ 0 → ⊥) → x ≡ record { answer = g .answer; count = 0; replica = r }
+                → Told (loggedStep r room d) x before after
+            unfolding writeActions
+            logged-refused x n c =
+                let u = handler-told in
+                let a : g .answer ≡ handler .answer = ap (λ (y : Handled). y .answer) (u .handed) in
+                let m : handler .answer ≡ 0 → ⊥ = λ z. n (a ∙ z) in
+                let quiet : handler .actions ≡ [] = done-quiet _ _ _ (d .entry) .none m in
+                told (goes ∙ ap (λ (b : Bool). pick b handler (kept (handler .answer) r)) (ne-eqb (handler .answer) 0 m))
+                (record { handed = c ∙ rw a; written = u .written ∙ ap (writeActions before) quiet })

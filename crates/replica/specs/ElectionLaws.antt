@@ -1,0 +1,207 @@
+-- The laws of a timeout and of CommitNotice: each way through the code is a case of the definition.
+use mathlib.Core.Path.{_≡_, refl, sym, ap, _∙_}
+use mathlib.Core.Bool.{Bool, true, false, not, _&&_, _||_, or-true, or-false}
+use mathlib.Core.List.{List, [], _∷_, _++_}
+use Prim.Native.Nat.{ℕ, _+_, _-_, _≤_, _<_}
+use native.Mathlib.Nat.{zero-add}
+use native.Mathlib.Omega.{arith}
+use lib.Dec.{ltb, leb, eqb}
+use lib.ListN.{length, length-append}
+use borrow.Author.Tests.{lt-ltb, le-ltb, le-leb, lt-leb, eq-eqb, ne-eqb}
+use Rattle.base.specs.Pick.{pick}
+use Rattle.base.specs.Scan.{scan}
+use Rattle.members.specs.declared.NextBallot.{NextBallot}
+use Rattle.members.specs.declared.NextBallot.the-variants.{Ballot, Spent}
+use Rattle.members.specs.Ballots.{nextBallot}
+use Rattle.actions.specs.declared.Action.the-variants.{Prepare, Heartbeat, StatusUp}
+use Rattle.actions.specs.Actions.{Act, bare, writeAt, putAct}
+use Rattle.actions.specs.Laws.{write-then, put-in, length-put, length-write}
+use Rattle.slots.specs.declared.LeaderBook.{LeaderBook}
+use Rattle.slots.specs.Slots.{newBook, redoneSlot, markedSlot}
+use Rattle.decide.specs.declared.Scalars.{Scalars}
+use Rattle.decide.specs.declared.PeerBars.{PeerBars}
+use Rattle.decide.specs.Scalars.{nobody, disallowed, steppedUp}
+use Rattle.decide.specs.Bars.{unknownBars}
+use Rattle.replica.specs.declared.Window.{Window}
+use Rattle.replica.specs.declared.Replica.{Replica}
+use Rattle.replica.specs.declared.Placed.{Placed}
+use Rattle.replica.specs.Record.{Outcome, kept, withWindow, grown}
+use Rattle.replica.specs.Leadership.{ignoresTimeout, firstOpen, lastOpen, redoActs, leadOn, stepUp, timeoutStep, markActs, markOn, markStop, commitNoticeStep}
+use Rattle.replica.specs.Step.{Told}
+use Rattle.replica.specs.Admit.{fromMember, fromOwner}
+use Rattle.replica.specs.AdmitLaws.{gate-member, gate-owner, gate-shut, gate-open, Ready}
+use Rattle.replica.specs.ActingLaws.{acted}
+use Rattle.replica.specs.Sweeps.{passes, sweepActs, Ranged, Swept}
+use Rattle.replica.specs.SweepLaws.{grown-within, grown-keeps, firstOpen-stop, firstOpen-within, markStop-stop, markStop-low, markStop-within}
+use Rattle.replica.specs.ElectionFits.{StepFits, LeadFits}
+
+-- ── whether a timeout is ignored ──
+module _ (sc : Scalars) (source : ℕ) {b : Bool} (e : b ≡ disallowed sc) where
+  -- a leader is known and is not the source
+  abbrev otherLeads : Bool
+  otherLeads = not (eqb (sc .leader) nobody) && not (eqb (sc .leader) source)
+
+  ignores-as : (otherLeads || b) ≡ ignoresTimeout sc source
+  ignores-as = ap (λ (t : Bool). otherLeads || t) e
+
+  pub ignores-disallowed : b ≡ true → true ≡ ignoresTimeout sc source
+  ignores-disallowed h = sym (ap (λ (t : Bool). otherLeads || t) h ∙ or-true otherLeads) ∙ ignores-as
+
+  pub ignores-none : b ≡ false → sc .leader ≡ 255 → false ≡ ignoresTimeout sc source
+  ignores-none h n = sym (rw (h, eq-eqb (sc .leader) 255 n)) ∙ ignores-as
+
+  pub ignores-other : b ≡ false → (sc .leader ≡ 255 → ⊥) → not (eqb (sc .leader) source) ≡ ignoresTimeout sc source
+  ignores-other h n = sym (rw (h, ne-eqb (sc .leader) 255 n) (or-false (not (eqb (sc .leader) source)))) ∙ ignores-as
+
+-- ── a timeout ──
+module _ (r : Replica) (room source : ℕ) where
+  abbrev untilStepUp : Bool → Outcome
+  untilStepUp ignored = pick ignored (kept 0 r) (stepUp r (nextBallot (r .sc .«bal_max_seen») (r .sc .id)))
+
+  timeout-gate : timeoutStep r room source
+      ≡ pick (not (eqb (fromMember r room source) 0)) (kept (fromMember r room source) r) (untilStepUp (ignoresTimeout (r .sc) source))
+  unfolding timeoutStep
+  timeout-gate = gate-member r room source (untilStepUp (ignoresTimeout (r .sc) source))
+
+  module _ (n : ℕ) (e : n ≡ fromMember r room source) where
+    pub timeout-refused : (n ≡ 0 → ⊥) → timeoutStep r room source ≡ kept n r
+    timeout-refused h = gate-shut (fromMember r room source) n r (untilStepUp (ignoresTimeout (r .sc) source)) timeout-gate e h
+
+    module _ (h : n ≡ 0) (b : Bool) (f : b ≡ ignoresTimeout (r .sc) source) where
+      timeout-on : timeoutStep r room source ≡ untilStepUp b
+      timeout-on =
+          gate-open (fromMember r room source) n r (untilStepUp (ignoresTimeout (r .sc) source)) timeout-gate e h ∙ ap untilStepUp (sym f)
+
+      pub timeout-ignored : b ≡ true → timeoutStep r room source ≡ kept 0 r
+      timeout-ignored g = timeout-on ∙ ap untilStepUp g
+
+      pub timeout-goes : {x y : NextBallot} → b ≡ false → x ≡ nextBallot (r .sc .«bal_max_seen») (r .sc .id) → x ≡ y → timeoutStep r room source ≡ stepUp r y
+      timeout-goes g p q = timeout-on ∙ ap untilStepUp g ∙ ap (stepUp r) (sym p ∙ q)
+
+pub step-spent : (r : Replica) → stepUp r Spent ≡ kept 8 r
+unfolding stepUp
+step-spent r = refl
+
+-- ── the trigger slot, found at place i ──
+module _ (r : Replica) (i : ℕ) (e : i ≡ scan (passes (r .window) 0 3) 0 (r .window .len)) where
+  found : i ≡ firstOpen (r .window)
+  found = e ∙ sym (firstOpen-stop (r .window))
+
+  pub found-within : i ≤ r .window .len
+  found-within = omega (arith, found, firstOpen-within (r .window))
+
+  module _ (ballot : ℕ) where
+    pub step-below : r .sc .start + i < r .sc .«exec_bar» → stepUp r (Ballot ballot) ≡ kept 8 r
+    unfolding stepUp
+    step-below h = rw (← found, lt-ltb (r .sc .start + i) (r .sc .«exec_bar») h)
+
+    pub step-full : r .sc .«exec_bar» ≤ r .sc .start + i → 64 ≤ i → stepUp r (Ballot ballot) ≡ kept 5 r
+    unfolding stepUp
+    step-full h q = rw (← found, le-ltb (r .sc .start + i) (r .sc .«exec_bar») h, le-leb 64 i q)
+
+    pub step-on : {last : ℕ} {w : Window} → r .sc .«exec_bar» ≤ r .sc .start + i → i < 64 → last ≡ lastOpen (r .window) → w ≡ grown (r .window) (i + 1)
+        → stepUp r (Ballot ballot) ≡ leadOn r w (r .sc .start + i) (r .sc .start + last) ballot
+    unfolding stepUp
+    step-on h q f g = rw (g, f, ← found, le-ltb (r .sc .start + i) (r .sc .«exec_bar») h, lt-leb 64 i q)
+
+-- what an admitted call hands on, and what the window with the trigger slot keeps of it
+pub ready-fits : (r : Replica) (room : List ℕ) → Ready r (length room) → StepFits r room
+ready-fits r room f =
+    record { long = f .long; low = f .low; within = f .within; exec-low = f .exec-low; exec-high = omega (arith, f .exec-high, f .commit-high) }
+
+pub grown-fits : (r : Replica) (w : Window) (room : List ℕ) {n : ℕ} → StepFits r room → n ≤ 64 → w ≡ grown (r .window) n → LeadFits r w room
+grown-fits r w room {n} f h e =
+    let l : w .len ≡ grown (r .window) n .len = ap (λ (v : Window). v .len) e in
+    record {
+      long = f .long;
+      low = f .low;
+      within = omega (arith, grown-within (r .window) n (f .within) h);
+      exec-low = f .exec-low;
+      exec-high = omega (arith, f .exec-high, grown-keeps (r .window) n);
+    }
+
+-- ── "status up, heartbeat, PrepareBal by rising slot, Prepare" ──
+module _ (r : Replica) (w : Window) (trigger endprep ballot : ℕ) where
+  pub lead-told : {room a b d z : List ℕ} {p : Placed} {book : LeaderBook} {s : Scalars} {t : PeerBars} → LeadFits r w room
+      → a ≡ putAct room 0 (bare StatusUp) → b ≡ putAct a 1 (bare Heartbeat) → book ≡ newBook trigger endprep
+      → Swept (λ i s. redoneSlot ballot book s) (λ i s. redoActs (r .sc .start + i) ballot s) (r .sc .«exec_bar» - r .sc .start) (w .len) 2 w b p d
+      → z ≡ putAct d (p .next) (bare (Prepare (record { trigger = trigger; ballot = ballot }))) → s ≡ steppedUp (r .sc) ballot → t ≡ unknownBars (r .bars .own)
+      → Told (leadOn r w trigger endprep ballot)
+      (record { answer = 0; count = p .next + 1; replica = record { sc = s; bars = t; window = p .window; keys = r .keys; reads = r .reads } }) room z
+  unfolding leadOn
+  lead-told {room} {a} {b} {d} {z} {p} f x y k q u v m =
+      let redo : List Act = sweepActs (λ i s. redoActs (r .sc .start + i) ballot s) (r .sc .«exec_bar» - r .sc .start) (w .len) w in
+      let two : List Act = bare StatusUp ∷ bare Heartbeat ∷ [] in
+      let ask : List Act = bare (Prepare (record { trigger = trigger; ballot = ballot })) ∷ [] in
+      let la : length a ≡ length room = ap length x ∙ length-put room 0 (bare StatusUp) in
+      let lb : length b ≡ length a = ap length y ∙ length-put a 1 (bare Heartbeat) in
+      let ld : length d ≡ length b = ap length (q .written) ∙ length-write b 2 redo (omega (arith, f, q .next, q .few)) in
+      let t2 : b ≡ writeAt room 0 two =
+      write-then room a b (bare StatusUp ∷ []) (bare Heartbeat ∷ []) 0 1 (omega arith) refl (x ∙ put-in room 0 (bare StatusUp) (omega arith) (f .long))
+      (y ∙ put-in a 1 (bare Heartbeat) (omega arith) (omega (arith, f .long))) in
+      let t3 : d ≡ writeAt room 0 (two ++ redo) = write-then room b d two redo 0 2 (omega arith) refl t2 (q .written) in
+      let t4 : z ≡ writeAt room 0 ((two ++ redo) ++ ask) =
+      write-then room d z (two ++ redo) ask 0 (p .next) (omega arith) (omega (arith, q .next)) t3
+      (u ∙ put-in d (p .next) _ (omega (arith, f, q .few)) (omega (arith, f .long))) in
+      acted ((two ++ redo) ++ ask) _ (p .next + 1) refl (omega (arith, q .next, length-append redo ask)) t4 (rw (v, m, q .window, k))
+
+-- ── CommitNotice ──
+module _ (r : Replica) (ballot bar : ℕ) where
+  -- the places of commit_bar and of the told bar
+  abbrev old : ℕ
+  old = r .sc .«commit_bar» - r .sc .start
+
+  abbrev new : ℕ
+  new = bar - r .sc .start
+
+  abbrev afterNotice : Outcome
+  afterNotice =
+      pick (not (eqb ballot (r .sc .«bal_max_seen»))) (kept 0 r)
+      (pick (leb bar (r .sc .«commit_bar»)) (kept 0 r)
+      (pick (ltb (r .sc .start + 64) bar) (kept 5 r)
+      (markOn r (grown (r .window) new) old (markStop (grown (r .window) new) ballot old new))))
+
+  module _ (room peer n : ℕ) (e : n ≡ fromOwner r room peer ballot) where
+    notice-gate : commitNoticeStep r room peer ballot bar ≡ pick (not (eqb (fromOwner r room peer ballot) 0)) (kept (fromOwner r room peer ballot) r) afterNotice
+    unfolding commitNoticeStep
+    notice-gate = gate-owner r room peer ballot afterNotice
+
+    pub notice-refused : (n ≡ 0 → ⊥) → commitNoticeStep r room peer ballot bar ≡ kept n r
+    notice-refused h = gate-shut (fromOwner r room peer ballot) n r afterNotice notice-gate e h
+
+    module _ (h : n ≡ 0) where
+      notice-on : commitNoticeStep r room peer ballot bar ≡ afterNotice
+      notice-on = gate-open (fromOwner r room peer ballot) n r afterNotice notice-gate e h
+
+      pub notice-other : (ballot ≡ r .sc .«bal_max_seen» → ⊥) → commitNoticeStep r room peer ballot bar ≡ kept 0 r
+      notice-other g = notice-on ∙ rw (ne-eqb ballot (r .sc .«bal_max_seen») g)
+
+      module _ (g : ballot ≡ r .sc .«bal_max_seen») where
+        pub notice-known : bar ≤ r .sc .«commit_bar» → commitNoticeStep r room peer ballot bar ≡ kept 0 r
+        notice-known k = notice-on ∙ rw (eq-eqb ballot (r .sc .«bal_max_seen») g, le-leb bar (r .sc .«commit_bar») k)
+
+        module _ (k : r .sc .«commit_bar» < bar) where
+          pub notice-past : r .sc .start + 64 < bar → commitNoticeStep r room peer ballot bar ≡ kept 5 r
+          notice-past l = notice-on ∙ rw (eq-eqb ballot (r .sc .«bal_max_seen») g, lt-leb bar (r .sc .«commit_bar») k, lt-ltb (r .sc .start + 64) bar l)
+
+          pub notice-marks : {w : Window} {stop : ℕ} → bar ≤ r .sc .start + 64 → w ≡ grown (r .window) new → stop ≡ scan (passes w ballot 2) old new
+              → commitNoticeStep r room peer ballot bar ≡ markOn r w old stop
+          notice-marks {w} {stop} l p q =
+              notice-on
+              ∙ rw (eq-eqb ballot (r .sc .«bal_max_seen») g, lt-leb bar (r .sc .«commit_bar») k, le-ltb (r .sc .start + 64) bar l, ← p, q, ← markStop-stop w ballot old new)
+
+  -- the places that are marked are places of the window
+  pub mark-fits : {stop : ℕ} (w : Window) (room : List ℕ) → Ready r (length room) → r .sc .«commit_bar» < bar → bar ≤ r .sc .start + 64
+      → stop ≡ scan (passes w ballot 2) old new → Ranged old stop 0 room (r .sc .start)
+  mark-fits {stop} w room f h l e =
+      let s : stop ≡ markStop w ballot old new = e ∙ sym (markStop-stop w ballot old new) in
+      let low = markStop-low w ballot old new in
+      let high = markStop-within w ballot old new (omega arith) in
+      record { ordered = omega arith; within = omega arith; places = omega arith; long = f .long; low = f .low }
+
+pub mark-told : (r : Replica) (w : Window) (from stop : ℕ) {room after : List ℕ} {p : Placed}
+    → Swept (λ i s. markedSlot s) (λ i s. markActs (r .sc .start + i) s) from stop 0 w room p after
+    → Told (markOn r w from stop) (record { answer = 0; count = p .next; replica = withWindow r (r .sc) (p .window) }) room after
+unfolding markOn
+mark-told r w from stop {room} {after} {p} q =
+    acted (sweepActs (λ i s. markActs (r .sc .start + i) s) from stop w) _ (p .next) refl (q .next ∙ zero-add _) (q .written) (rw (q .window))

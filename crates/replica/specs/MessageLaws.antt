@@ -1,0 +1,234 @@
+-- The laws of Prepare, Accept and AcceptReply: one for each way out, in sections that add one fact each.
+use mathlib.Core.Path.{_≡_, refl, sym, ap, _∙_}
+use mathlib.Core.Bool.{Bool, true, false, not}
+use mathlib.Core.List.{List, [], _∷_, _++_}
+use Prim.Native.Nat.{ℕ, _+_, _≤_, _<_}
+use native.Mathlib.Nat.{zero-add}
+use native.Mathlib.Omega.{arith}
+use lib.Dec.{ltb, leb, eqb}
+use lib.ListN.{length, length-append}
+use borrow.Author.Tests.{lt-ltb, le-ltb, le-leb, lt-leb, eq-eqb, ne-eqb}
+use Rattle.base.specs.Pick.{pick, pick-cases, larger, larger-left, larger-below}
+use Rattle.base.specs.Gather.{gather}
+use Rattle.base.specs.Find.{any}
+use Rattle.batch.specs.declared.Batch.{Batch}
+use Rattle.batch.specs.declared.Made.{Made}
+use Rattle.batch.specs.Batches.{isBatch, makeBatch}
+use Rattle.actions.specs.declared.Action.the-variants.{StatusDown}
+use Rattle.actions.specs.Actions.{Act, bare, putAct}
+use Rattle.actions.specs.Laws.{write-none, write-then, put-in}
+use Rattle.slots.specs.declared.ReplicaBook.{ReplicaBook}
+use Rattle.slots.specs.Slots.{preparedSlot}
+use Rattle.decide.specs.declared.Scalars.{Scalars}
+use Rattle.decide.specs.declared.Decided.{Decided}
+use Rattle.decide.specs.Scalars.{followed, stepsDown}
+use Rattle.decide.specs.Decide.{decideAccept, decideAcceptReply}
+use Rattle.replica.specs.declared.Window.{Window}
+use Rattle.replica.specs.declared.Replica.{Replica}
+use Rattle.replica.specs.declared.Placed.{Placed}
+use Rattle.replica.specs.Record.{Outcome, kept, settled, withWindow, place, number, logEnd, slotAt, grown}
+use Rattle.replica.specs.Messages.{clean, promise, downActs, lastUsed, prepareTop, prepareOn, prepareStep, acceptOn, acceptStep, acceptReplyStep}
+use Rattle.replica.specs.Step.{Told}
+use Rattle.replica.specs.Admit.{fromPeer, fromOwner}
+use Rattle.replica.specs.AdmitLaws.{gate-owner, gate-peer, gate-shut, gate-open}
+use Rattle.replica.specs.ActingLaws.{acted}
+use Rattle.replica.specs.Sweeps.{Swept}
+use Rattle.replica.specs.SweepLaws.{grown-within, lastUsed-within}
+use Rattle.replica.specs.MessageFits.{WroteDown}
+
+-- ── a leader that steps down says so first ──
+
+module _ (sc : Scalars) (ballot : ℕ) (room : List ℕ) where
+  pub down-none : stepsDown sc ballot ≡ false → WroteDown sc ballot room 0 room
+  down-none e =
+      let none : downActs sc ballot ≡ [] = ap (λ (t : Bool). pick t (bare StatusDown ∷ []) []) e in
+      record { next = rw none; few = omega arith; written = rw (none, write-none room 0) }
+
+  pub down-one : (after : List ℕ) → stepsDown sc ballot ≡ true → 3456 ≤ length room → after ≡ putAct room 0 (bare StatusDown) → WroteDown sc ballot room 1 after
+  down-one after e l p =
+      let one : downActs sc ballot ≡ bare StatusDown ∷ [] = ap (λ (t : Bool). pick t (bare StatusDown ∷ []) []) e in
+      record { next = rw one; few = omega arith; written = rw one (p ∙ put-in room 0 (bare StatusDown) (omega arith) l) }
+
+-- ── Prepare ──
+
+-- where the sender may send
+abbrev prepareFrom : Replica → ℕ → ℕ → ℕ → Outcome
+prepareFrom r peer trigger ballot =
+    pick (ltb trigger (r .sc .start)) (kept 0 r)
+    (pick (ltb ballot (r .sc .«bal_max_seen»)) (kept 0 r)
+    (pick (leb (r .sc .start + 64) trigger) (kept 5 r)
+    (prepareOn r (grown (r .window) (place (r .sc) trigger + 1)) (place (r .sc) trigger) peer ballot)))
+
+module _ (r : Replica) (n peer trigger ballot first : ℕ) (e : first ≡ fromOwner r n peer ballot) where
+  pub prepare-shut : (first ≡ 0 → ⊥) → prepareStep r n peer trigger ballot ≡ kept first r
+  unfolding prepareStep
+  prepare-shut h =
+      gate-shut (fromOwner r n peer ballot) first r (prepareFrom r peer trigger ballot) (gate-owner r n peer ballot (prepareFrom r peer trigger ballot)) e h
+
+  module _ (z : first ≡ 0) where
+    prepare-open : prepareStep r n peer trigger ballot ≡ prepareFrom r peer trigger ballot
+    unfolding prepareStep
+    prepare-open =
+        gate-open (fromOwner r n peer ballot) first r (prepareFrom r peer trigger ballot) (gate-owner r n peer ballot (prepareFrom r peer trigger ballot)) e z
+
+    pub prepare-below : trigger < r .sc .start → prepareStep r n peer trigger ballot ≡ kept 0 r
+    prepare-below h = prepare-open ∙ rw (lt-ltb trigger (r .sc .start) h)
+
+    module _ (f : r .sc .start ≤ trigger) where
+      pub prepare-old : ballot < r .sc .«bal_max_seen» → prepareStep r n peer trigger ballot ≡ kept 0 r
+      prepare-old h = prepare-open ∙ rw (le-ltb trigger (r .sc .start) f, lt-ltb ballot (r .sc .«bal_max_seen») h)
+
+      module _ (g : r .sc .«bal_max_seen» ≤ ballot) where
+        pub prepare-past : r .sc .start + 64 ≤ trigger → prepareStep r n peer trigger ballot ≡ kept 5 r
+        prepare-past h =
+            prepare-open
+            ∙ rw (le-ltb trigger (r .sc .start) f, le-ltb ballot (r .sc .«bal_max_seen») g, le-leb (r .sc .start + 64) trigger h)
+
+        pub prepare-goes : (w : Window) → trigger < r .sc .start + 64 → w ≡ grown (r .window) (place (r .sc) trigger + 1)
+            → prepareStep r n peer trigger ballot ≡ prepareOn r w (place (r .sc) trigger) peer ballot
+        prepare-goes w h q =
+            prepare-open
+            ∙ rw (le-ltb trigger (r .sc .start) f, le-ltb ballot (r .sc .«bal_max_seen») g, lt-leb (r .sc .start + 64) trigger h, ← q)
+
+-- the window as the code has it, grown to the trigger's place
+pub grown-fits : {v : Window} (w : Window) (n : ℕ) → v ≡ grown w n → w .len ≤ 64 → n ≤ 64 → v .len ≤ 64
+grown-fits w n e h q = rw e (grown-within w n h q)
+
+-- the last place that it covers, as the code has it
+pub top-within : (w : Window) (from last top : ℕ) → last ≡ lastUsed w → top ≡ larger from last → w .len ≤ 64 → from < 64 → (from ≤ top) × (top < 64)
+top-within w from last top e f h q =
+    (rw f (larger-left from last), rw f (larger-below from last 64 q (rw e (lastUsed-within w h))))
+
+-- the slots that it covers end at `top`
+abbrev pub bookTo : Scalars → ℕ → ℕ → ℕ → ReplicaBook
+bookTo sc from top peer = record { present = true; source = peer; trigger = number sc from; endprep = number sc top }
+
+module _ (r : Replica) (w : Window) (from peer ballot top : ℕ) (e : top ≡ prepareTop w from) (b : Bool)
+    (f : b ≡ any (λ i. ltb ballot (slotAt w i .ballot)) from (top + 1)) where
+  pub prepare-above : b ≡ true → prepareOn r w from peer ballot ≡ kept 6 r
+  unfolding prepareOn
+  prepare-above h = rw (← e, ← f, h)
+
+  -- as the code has it: the report, then the sweep from the place after it
+  pub prepare-told : {room mid after : List ℕ} {k : ℕ} {p : Placed} {sc : Scalars} → b ≡ false → WroteDown (r .sc) ballot room k mid
+      → Swept (λ i s. preparedSlot ballot (bookTo (r .sc) from top peer) s) (λ i s. promise (number (r .sc) i) ballot ∷ []) from (top + 1) k w mid p after
+      → sc ≡ followed (r .sc) peer ballot
+      → Told (prepareOn r w from peer ballot) (record { answer = 0; count = p .next; replica = withWindow r sc (p .window) }) room after
+  unfolding prepareOn
+  prepare-told {room} {mid} {after} {k} {p} {sc} h d s q =
+      let down : List Act = downActs (r .sc) ballot in
+      let rest : List Act = gather (λ i. promise (number (r .sc) i) ballot ∷ []) from (top + 1) in
+      acted (down ++ rest) (withWindow r sc (p .window)) (p .next) refl
+      (s .next ∙ ap (λ (x : ℕ). x + length rest) (d .next) ∙ sym (length-append down rest))
+      (write-then room mid after down rest 0 k (omega arith) (d .next ∙ sym (zero-add (length down))) (d .written) (s .written))
+      (rw (← e, ← f, h, s .window, q))
+
+-- ── Accept ──
+
+-- 10, by the batch that the code makes
+made-none : (id count : ℕ) (keys : List ℕ) → (makeBatch id count keys .answer ≡ 0 → ⊥) → isBatch id count ≡ false
+unfolding makeBatch
+made-none id count keys =
+    pick-cases (λ (m : Made). (m .answer ≡ 0 → ⊥) → isBatch id count ≡ false) (isBatch id count) (λ t h. absurd (h refl)) (λ t h. t)
+
+made-some : (id count : ℕ) (keys : List ℕ) → makeBatch id count keys .answer ≡ 0 → isBatch id count ≡ true
+unfolding makeBatch
+made-some id count keys =
+    pick-cases (λ (m : Made). m .answer ≡ 0 → isBatch id count ≡ true) (isBatch id count) (λ t h. t) (λ t h. absurd (omega arith))
+
+-- where the batch is one
+abbrev acceptFrom : Replica → ℕ → ℕ → ℕ → Batch → Outcome
+acceptFrom r peer slot ballot b =
+    pick (ltb slot (r .sc .start)) (kept 0 r)
+    (pick (ltb ballot (r .sc .«bal_max_seen»)) (kept 0 r)
+    (pick (leb (r .sc .start + 64) slot) (kept 5 r)
+    (acceptOn r (grown (r .window) (place (r .sc) slot + 1)) (place (r .sc) slot) peer slot ballot b)))
+
+-- where the sender may send
+abbrev acceptMade : Replica → ℕ → ℕ → ℕ → Batch → Outcome
+acceptMade r peer slot ballot b = pick (not (isBatch (b .id) (b .count))) (kept 10 r) (acceptFrom r peer slot ballot (clean b))
+
+module _ (r : Replica) (n peer slot ballot : ℕ) (b : Batch) (first : ℕ) (e : first ≡ fromOwner r n peer ballot) where
+  pub accept-shut : (first ≡ 0 → ⊥) → acceptStep r n peer slot ballot b ≡ kept first r
+  unfolding acceptStep
+  accept-shut h =
+      gate-shut (fromOwner r n peer ballot) first r (acceptMade r peer slot ballot b) (gate-owner r n peer ballot (acceptMade r peer slot ballot b)) e h
+
+  module _ (z : first ≡ 0) (m : Made) (k : m ≡ makeBatch (b .id) (b .count) (b .keys)) where
+    accept-open : acceptStep r n peer slot ballot b ≡ acceptMade r peer slot ballot b
+    unfolding acceptStep
+    accept-open =
+        gate-open (fromOwner r n peer ballot) first r (acceptMade r peer slot ballot b) (gate-owner r n peer ballot (acceptMade r peer slot ballot b)) e z
+
+    pub accept-unmade : (m .answer ≡ 0 → ⊥) → acceptStep r n peer slot ballot b ≡ kept 10 r
+    accept-unmade h =
+        accept-open
+        ∙ ap (λ (t : Bool). pick (not t) (kept 10 r) (acceptFrom r peer slot ballot (clean b)))
+        (made-none (b .id) (b .count) (b .keys) (λ q. h (ap (λ (x : Made). x .answer) k ∙ q)))
+
+    module _ (y : m .answer ≡ 0) where
+      accept-made : acceptStep r n peer slot ballot b ≡ acceptFrom r peer slot ballot (m .batch)
+      accept-made =
+          accept-open
+          ∙ ap (λ (t : Bool). pick (not t) (kept 10 r) (acceptFrom r peer slot ballot (clean b)))
+          (made-some (b .id) (b .count) (b .keys) (sym (ap (λ (x : Made). x .answer) k) ∙ y))
+          ∙ ap (λ (x : Made). acceptFrom r peer slot ballot (x .batch)) (sym k)
+
+      pub accept-below : slot < r .sc .start → acceptStep r n peer slot ballot b ≡ kept 0 r
+      accept-below h = accept-made ∙ rw (lt-ltb slot (r .sc .start) h)
+
+      module _ (f : r .sc .start ≤ slot) where
+        pub accept-old : ballot < r .sc .«bal_max_seen» → acceptStep r n peer slot ballot b ≡ kept 0 r
+        accept-old h = accept-made ∙ rw (le-ltb slot (r .sc .start) f, lt-ltb ballot (r .sc .«bal_max_seen») h)
+
+        module _ (g : r .sc .«bal_max_seen» ≤ ballot) where
+          pub accept-past : r .sc .start + 64 ≤ slot → acceptStep r n peer slot ballot b ≡ kept 5 r
+          accept-past h =
+              accept-made ∙ rw (le-ltb slot (r .sc .start) f, le-ltb ballot (r .sc .«bal_max_seen») g, le-leb (r .sc .start + 64) slot h)
+
+          pub accept-goes : (w : Window) (d : Decided) → slot < r .sc .start + 64 → w ≡ grown (r .window) (place (r .sc) slot + 1)
+              → d ≡ decideAccept (r .sc) (slotAt w (place (r .sc) slot)) peer slot ballot (m .batch)
+              → acceptStep r n peer slot ballot b ≡ settled r w (place (r .sc) slot) slot d
+          accept-goes w d h q v =
+              accept-made
+              ∙ rw (le-ltb slot (r .sc .start) f, le-ltb ballot (r .sc .«bal_max_seen») g, lt-leb (r .sc .start + 64) slot h, ← q, ← v)
+
+-- ── AcceptReply ──
+
+abbrev acceptReplyFrom : Replica → ℕ → ℕ → ℕ → Outcome
+acceptReplyFrom r peer slot ballot =
+    pick (ltb slot (r .sc .start)) (kept 0 r)
+    (pick (not (eqb ballot (r .sc .«bal_prepared»))) (kept 0 r)
+    (pick (leb (logEnd r) slot) (kept 4 r)
+    (settled r (r .window) (place (r .sc) slot) slot (decideAcceptReply (r .sc) (slotAt (r .window) (place (r .sc) slot)) peer slot ballot))))
+
+module _ (r : Replica) (n peer slot ballot first : ℕ) (e : first ≡ fromPeer r n peer) where
+  pub acceptReply-shut : (first ≡ 0 → ⊥) → acceptReplyStep r n peer slot ballot ≡ kept first r
+  unfolding acceptReplyStep
+  acceptReply-shut h =
+      gate-shut (fromPeer r n peer) first r (acceptReplyFrom r peer slot ballot) (gate-peer r n peer (acceptReplyFrom r peer slot ballot)) e h
+
+  module _ (z : first ≡ 0) where
+    acceptReply-open : acceptReplyStep r n peer slot ballot ≡ acceptReplyFrom r peer slot ballot
+    unfolding acceptReplyStep
+    acceptReply-open =
+        gate-open (fromPeer r n peer) first r (acceptReplyFrom r peer slot ballot) (gate-peer r n peer (acceptReplyFrom r peer slot ballot)) e z
+
+    pub acceptReply-below : slot < r .sc .start → acceptReplyStep r n peer slot ballot ≡ kept 0 r
+    acceptReply-below h = acceptReply-open ∙ rw (lt-ltb slot (r .sc .start) h)
+
+    module _ (f : r .sc .start ≤ slot) where
+      pub acceptReply-other : (ballot ≡ r .sc .«bal_prepared» → ⊥) → acceptReplyStep r n peer slot ballot ≡ kept 0 r
+      acceptReply-other h = acceptReply-open ∙ rw (le-ltb slot (r .sc .start) f, ne-eqb ballot (r .sc .«bal_prepared») h)
+
+      module _ (g : ballot ≡ r .sc .«bal_prepared») where
+        pub acceptReply-past : logEnd r ≤ slot → acceptReplyStep r n peer slot ballot ≡ kept 4 r
+        acceptReply-past h =
+            acceptReply-open ∙ rw (le-ltb slot (r .sc .start) f, eq-eqb ballot (r .sc .«bal_prepared») g, le-leb (logEnd r) slot h)
+
+        pub acceptReply-goes : (d : Decided) → slot < logEnd r
+            → d ≡ decideAcceptReply (r .sc) (slotAt (r .window) (place (r .sc) slot)) peer slot ballot
+            → acceptReplyStep r n peer slot ballot ≡ settled r (r .window) (place (r .sc) slot) slot d
+        acceptReply-goes d h v =
+            acceptReply-open
+            ∙ rw (le-ltb slot (r .sc .start) f, eq-eqb ballot (r .sc .«bal_prepared») g, lt-leb (logEnd r) slot h, ← v)

@@ -1,0 +1,27 @@
+-- What the functions that write a closed read's answers count on, and hand back: contracts inside the crate.
+use mathlib.Core.Path.{_≡_}
+use mathlib.Core.List.{List, [], _∷_}
+use Prim.Native.Nat.{ℕ, _≤_, _<_}
+use lib.ListN.{length}
+use Rattle.base.specs.Gather.{gather}
+use Rattle.tally.specs.declared.Read.{Read}
+use Rattle.actions.specs.Actions.{Act, writeAt}
+use Rattle.replica.specs.Quorumread.{readAct}
+
+-- a key's place, and room for 192 actions
+pub record AnswerFits (i : ℕ) (room : List ℕ) : Type 0 where
+  pub low : i < 8
+  pub long : 3456 ≤ length room
+
+-- no more answers than a read has keys, and room for 192 actions
+pub record AnswersFit (answers : ℕ) (room : List ℕ) : Type 0 where
+  pub few : answers ≤ 8
+  pub long : 3456 ≤ length room
+
+-- the answers for the first keys
+abbrev pub answerActs : ℕ → Read → ℕ → List Act
+answerActs leader read answers = gather (λ k. readAct leader read k ∷ []) 0 answers
+
+pub record Answers (leader : ℕ) (read : Read) (answers : ℕ) (room after : List ℕ) : Type 0 where
+  pub many : answers ≡ length (answerActs leader read answers)
+  pub written : after ≡ writeAt room 0 (answerActs leader read answers)

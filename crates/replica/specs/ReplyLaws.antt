@@ -1,0 +1,399 @@
+-- The laws of a PrepareReply: what is weighed before anything is written is what the definition does.
+use mathlib.Core.Path.{_≡_, refl, sym, ap, _∙_}
+use mathlib.Core.Bool.{Bool, true, false, not, _&&_, and-false}
+use mathlib.Core.Logic.{⊎-elim}
+use mathlib.Core.List.{List, _++_, append-nil}
+use Prim.Native.Nat.{ℕ, _+_, _-_, _≤_, _<_}
+use native.Mathlib.Omega.{arith}
+use lib.Dec.{ltb, leb, eqb}
+use lib.ListN.{length, length-append}
+use lib.Seq.{getD-set-same, getD-set-other, set-getD}
+use borrow.Author.Tests.{not-true, not-false, lt-ltb, le-ltb, le-leb, lt-leb, eq-eqb, ne-eqb, ltb-true, ltb-false, leb-true, eqb-true, eqb-false}
+use Rattle.base.specs.Pick.{pick, larger-left, pick-both, pick-cases, and-both, decide}
+use Rattle.base.specs.Over.{over-self, length-over}
+use Rattle.base.specs.Gather.{gather, gather-self}
+use Rattle.batch.specs.declared.Batch.{Batch}
+use Rattle.batch.specs.declared.Made.{Made}
+use Rattle.batch.specs.declared.KeyTable.{KeyTable}
+use Rattle.batch.specs.Batches.{isBatch, makeBatch}
+use Rattle.batch.specs.Keys.{refresh, overfull}
+use Rattle.actions.specs.Actions.{Act}
+use Rattle.actions.specs.Laws.{write-then}
+use Rattle.slots.specs.declared.LeaderBook.{LeaderBook}
+use Rattle.slots.specs.declared.Slot.{Slot}
+use Rattle.slots.specs.Slots.{noSlot, newBook, appendedSlot, enteredSlot}
+use Rattle.decide.specs.declared.Scalars.{Scalars}
+use Rattle.decide.specs.declared.PeerBars.{PeerBars}
+use Rattle.decide.specs.declared.Decided.{Decided}
+use Rattle.decide.specs.Scalars.{leads}
+use Rattle.decide.specs.Bars.{withBar, withFallen}
+use Rattle.decide.specs.Laws.{fallen-is}
+use Rattle.decide.specs.Decide.{awaitsPrepare, decideVote, isCounted, decideCount}
+use Rattle.replica.specs.declared.Window.{Window}
+use Rattle.replica.specs.declared.Replica.{Replica}
+use Rattle.replica.specs.declared.Reply.{Reply}
+use Rattle.replica.specs.declared.Weighed.{Weighed}
+use Rattle.replica.specs.declared.Placed.{Placed}
+use Rattle.replica.specs.Record.{Outcome, kept, noting, withWindow, place, number, slotAt, putSlot, sweep}
+use Rattle.replica.specs.Messages.{appended, appendActs, enterActs, countedOn, votedOn, repliedOn, inRange, orKept, replyOn, cleanReply, prepareReplyStep}
+use Rattle.replica.specs.Step.{Told}
+use Rattle.replica.specs.Admit.{fromPeer}
+use Rattle.replica.specs.AdmitLaws.{gate-peer, peer-facts}
+use Rattle.replica.specs.Sweeps.{extended, Ranged, Swept, Promises}
+use Rattle.replica.specs.SweepLaws.{extended-appended, appended-within}
+use Rattle.replica.specs.ActingLaws.{acted, noting-passes, noting-full, noting-acts}
+use Rattle.replica.specs.Replying.{ReplyFits, PlacesFit, inLog, withVoted, unmoved, weighedCount, weighedVote, weighed, sweptTo, placed, carried, replyAt}
+
+-- one test on both sides
+pick-meet : {A B C : Type 0} (f : A → C) (g : B → C) (t : Bool) {x y : A} {a b : B} → (t ≡ true → f x ≡ g a) → (t ≡ false → f y ≡ g b)
+    → f (pick t x y) ≡ g (pick t a b)
+pick-meet f g true p q = p refl
+pick-meet f g false p q = q refl
+
+-- a slot read back where another, or itself, was stored
+pub read-back : (w : Window) (i j : ℕ) (x : Slot) → i < length (w .slots) → slotAt (putSlot w i x) j ≡ pick (eqb i j) x (slotAt w j)
+read-back w i j x h =
+    pick-cases (λ (y : Slot). slotAt (putSlot w i x) j ≡ y) (eqb i j)
+    (λ t. rw (← eqb-true i j t) (getD-set-same (w .slots) i x noSlot h))
+    (λ t. getD-set-other (w .slots) i j x noSlot (λ e. eqb-false i j t (sym e)))
+
+-- storing what is there changes nothing
+stored-back : (w : Window) (j : ℕ) (x : Slot) → x ≡ slotAt w j → putSlot w j x ≡ w
+stored-back w j x e = rw e (rw (set-getD (w .slots) j noSlot))
+
+-- ── what was weighed, carried out: refused, 7, or done ──
+module _ (r : Replica) (bars : PeerBars) (w : Window) (i j : ℕ) (m : Reply) (acts : List Act) (g : Weighed) where
+  abbrev pub enteredActs : List Act
+  enteredActs = gather (λ k. enterActs (r .sc .start + k) (m .ballot) (slotAt (placed w i j g) k)) j (sweptTo w j g)
+
+  abbrev pub enteredWindow : Window
+  enteredWindow = sweep (λ k s. enteredSlot s) j (sweptTo w j g) (placed w i j g)
+
+  pub carried-refused : (g .answer ≡ 0 → ⊥) → carried r bars w i j m acts g ≡ kept (g .answer) r
+  unfolding carried
+  carried-refused h = rw (ne-eqb (g .answer) 0 h)
+
+  pub carried-full : g .answer ≡ 0 → (g .noted && overfull (r .keys) (g .slot .batch)) ≡ true → carried r bars w i j m acts g ≡ kept 7 r
+  unfolding carried
+  carried-full e f = rw (eq-eqb (g .answer) 0 e, f)
+
+  pub carried-acts : g .answer ≡ 0 → (g .noted && overfull (r .keys) (g .slot .batch)) ≡ false
+      → carried r bars w i j m acts g
+      ≡ record {
+        answer = 0;
+        replica = record {
+          sc = g .sc;
+          bars = bars;
+          window = enteredWindow;
+          keys = pick (g .noted) (refresh (m .slot) (g .slot .batch) (r .keys)) (r .keys);
+          reads = r .reads;
+        };
+        actions = acts ++ enteredActs;
+      }
+  unfolding carried
+  carried-acts e f = rw (eq-eqb (g .answer) 0 e, f)
+
+-- ── the definition, test by test ──
+module _ (r : Replica) (sc : Scalars) (bars : PeerBars) (w : Window) (i j peer : ℕ) (m : Reply) (acts : List Act) where
+  -- the replica with the peer accept table
+  abbrev listed : Replica
+  listed = record { sc = sc; bars = bars; window = r .window; keys = r .keys; reads = r .reads }
+
+  abbrev done : Weighed → Outcome
+  done g = carried r bars w i j m acts g
+
+  abbrev noted : Weighed → Outcome → Outcome
+  noted g o = orKept r (noting listed (g .noted) (m .slot) (g .slot .batch) o)
+
+  abbrev entering : Weighed → ℕ → List Act
+  entering g k = enterActs (r .sc .start + k) (m .ballot) (slotAt (placed w i j g) k)
+
+  noted-done : (g : Weighed) (v : Window) (xs : List Act) → g .answer ≡ 0 → v ≡ enteredWindow r bars w i j m acts g → xs ≡ acts ++ enteredActs r bars w i j m acts g
+      → noted g (record { answer = 0; replica = withWindow listed (g .sc) v; actions = xs }) ≡ done g
+  noted-done g v xs a p x = go (g .noted && overfull (r .keys) (g .slot .batch)) refl
+    where
+      go : (b : Bool) → (g .noted && overfull (r .keys) (g .slot .batch)) ≡ b
+          → noted g (record { answer = 0; replica = withWindow listed (g .sc) v; actions = xs }) ≡ done g
+      go true e =
+          ap (orKept r) (noting-full listed (g .noted) (m .slot) (g .slot .batch) _ refl e) ∙ sym (carried-full r bars w i j m acts g a e)
+      go false e =
+          ap (orKept r) (noting-acts listed (g .noted) (m .slot) (g .slot .batch) (withWindow listed (g .sc) v) xs e)
+          ∙ rw (p, x) (sym (carried-acts r bars w i j m acts g a e))
+
+  -- no slot enters Accept, and they do
+  noted-still : (g : Weighed) (v : Window) → g .answer ≡ 0 → g .enters ≡ false → placed w i j g ≡ v
+      → noted g (record { answer = 0; replica = withWindow listed (g .sc) v; actions = acts }) ≡ done g
+  noted-still g v a e p =
+      noted-done g v acts a
+      (sym (ap (λ (t : Bool). sweep (λ k s. enteredSlot s) j (pick t (w .len) j) (placed w i j g)) e ∙ rw (over-self (λ k s. enteredSlot s) noSlot j (placed w i j g .slots)) p))
+      (sym
+      (ap (λ (t : Bool). acts ++ gather (entering g) j (pick t (w .len) j)) e ∙ rw (gather-self (entering g) j) (append-nil acts)))
+
+  noted-enters : (g : Weighed) → g .answer ≡ 0 → g .enters ≡ true → sc .start ≡ r .sc .start
+      → noted g (record {
+        answer = 0;
+        replica = withWindow listed (g .sc) (sweep (λ k s. enteredSlot s) j (w .len) (placed w i j g));
+        actions = acts ++ gather (λ k. enterActs (sc .start + k) (m .ballot) (slotAt (placed w i j g) k)) j (w .len);
+      })
+      ≡ done g
+  noted-enters g a e s =
+      noted-done g _ _ a
+      (sym (ap (λ (t : Bool). sweep (λ k s. enteredSlot s) j (pick t (w .len) j) (placed w i j g)) e))
+      (ap (λ (n : ℕ). acts ++ gather (λ k. enterActs (n + k) (m .ballot) (slotAt (placed w i j g) k)) j (w .len)) s
+      ∙ sym (ap (λ (t : Bool). acts ++ gather (entering g) j (pick t (w .len) j)) e))
+
+  -- refused: the replica as it was before the table
+  kept-done : (g : Weighed) (a : ℕ) → g .answer ≡ a → (a ≡ 0 → ⊥) → orKept r (kept a listed) ≡ done g
+  kept-done g a e h = rw (ne-eqb a 0 h) (rw (← e) (sym (carried-refused r bars w i j m acts g (λ z. h (sym e ∙ z)))))
+
+  module _ (low : sc .start ≡ r .sc .start) (d : Decided) where
+    abbrev next : Window
+    next = putSlot w i (d .slot)
+
+    -- the count, by its decision
+    counted-done : (e : Decided)
+        → orKept r (noting listed (d .noted) (m .slot) (d .slot .batch) (countedOn listed next j (m .ballot) acts e))
+        ≡ done (weighedCount sc (slotAt w i) (slotAt w j) d e)
+    unfolding countedOn
+    counted-done e =
+        pick-meet (λ (o : Outcome). orKept r (noting listed (d .noted) (m .slot) (d .slot .batch) o)) done (not (eqb (e .answer) 0))
+        (λ t.
+        let h = eqb-false _ _ (not-true _ t) in
+        ap (orKept r) (noting-passes listed (d .noted) (m .slot) (d .slot .batch) (kept (e .answer) listed) h) ∙ kept-done _ (e .answer) refl h)
+        (λ t.
+        pick-cases
+        (λ (o : Outcome).
+        orKept r (noting listed (d .noted) (m .slot) (d .slot .batch) o)
+        ≡ done (record { answer = 0; noted = d .noted; enters = isCounted (e .sc) (e .slot); sc = e .sc; slot = d .slot; trigger = e .slot }))
+        (not (isCounted (e .sc) (e .slot)))
+        (λ u. noted-still _ _ refl (not-true _ u) refl)
+        (λ u. noted-enters _ refl (not-false _ u) low))
+
+    -- the vote, by its decision
+    voted-done : i < length (w .slots) → orKept r (votedOn listed w i j peer m acts d) ≡ done (weighedVote sc (slotAt w i) (slotAt w j) (eqb i j) peer m d)
+    unfolding votedOn
+    voted-done h =
+        let back = read-back w i j (d .slot) h in
+        pick-meet (orKept r) done (not (eqb (d .answer) 0)) (λ t. kept-done _ (d .answer) refl (eqb-false _ _ (not-true _ t)))
+        (λ t.
+        pick-meet (λ (o : Outcome). orKept r (noting listed (d .noted) (m .slot) (d .slot .batch) o)) done (not (eqb (m .slot) (m .endprep)))
+        (λ u. noted-still _ _ refl refl (stored-back next j _ (sym back)))
+        (λ u.
+        ap (λ (x : Slot). orKept r (noting listed (d .noted) (m .slot) (d .slot .batch) (countedOn listed next j (m .ballot) acts (decideCount sc x peer (m .ballot))))) back
+        ∙ counted-done _))
+
+  pub replied-done : sc .start ≡ r .sc .start → i < length (w .slots)
+      → orKept r (repliedOn listed w i j peer m acts) ≡ carried r bars w i j m acts (weighed sc (slotAt w i) (slotAt w j) (eqb i j) peer m)
+  unfolding repliedOn weighed noting
+  replied-done low h =
+      pick-meet (orKept r) done (not (awaitsPrepare (slotAt w i) (m .ballot)))
+      (λ t.
+      noted-still (unmoved 0 sc (slotAt w i) (slotAt w j)) w refl refl
+      (ap (λ (v : Window). putSlot v j (slotAt w j)) (stored-back w i _ refl) ∙ stored-back w j _ refl))
+      (λ t. voted-done low (decideVote sc (slotAt w i) (m .ballot) (m .voted) (m .vote)) h)
+
+-- ── the code's own values ──
+fallen-start : (sc : Scalars) (b : PeerBars) (peer bar : ℕ) → withFallen sc b peer bar .start ≡ sc .start
+fallen-start sc b peer bar = ap (λ (x : Scalars). x .start) (fallen-is sc b peer bar .2)
+
+length-appended : (r : Replica) (j i : ℕ) → length (appended r j i .slots) ≡ length (r .window .slots)
+unfolding appended
+length-appended r j i =
+    length-over (λ k s. appendedSlot (r .sc .«bal_prep_sent») (newBook (number (r .sc) j) (slotAt (r .window) j .leader .endprep))) noSlot (r .window .len) (i + 1)
+    (r .window .slots)
+
+appended-keeps : (r : Replica) (j i : ℕ) → r .window .len ≤ appended r j i .len
+unfolding appended
+appended-keeps r j i = larger-left (r .window .len) (i + 1)
+
+-- the slot at place i and its trigger at place j: the appended window, the scalars with a bar that fell, and what was weighed of them
+module _ (r : Replica) (peer : ℕ) (m : Reply) (i j : ℕ) (w : Window) (fallen : Scalars) (g : Weighed) where
+  pub record Weighs : Type 0 where
+    pub window : w ≡ appended r j i
+    pub scalars : fallen ≡ withFallen (r .sc) (r .bars) peer (m .bar)
+    pub weighs : g ≡ weighed fallen (slotAt w i) (slotAt w j) (eqb i j) peer m
+    pub here : i < length (r .window .slots)
+
+  pub weighs-read : {book : LeaderBook} → book ≡ newBook (number (r .sc) j) (slotAt (r .window) j .leader .endprep)
+      → w ≡ extended (r .window) (i + 1) (r .sc .«bal_prep_sent») book → fallen ≡ withFallen (r .sc) (r .bars) peer (m .bar)
+      → g ≡ weighed fallen (slotAt w i) (slotAt w j) (eqb i j) peer m → i < length (r .window .slots) → Weighs
+  weighs-read b e f h l =
+      record { window = e ∙ ap (extended (r .window) (i + 1) (r .sc .«bal_prep_sent»)) b ∙ extended-appended r j i; scalars = f; weighs = h; here = l }
+
+  module _ (e : Weighs) where
+    -- the sweep into Accept has room
+    pub enter-fits : {room mid : List ℕ} {k to : ℕ} → PlacesFit r room i j → to ≡ sweptTo w j g → k ≡ 0 + (i + 1 - r .window .len) → 3456 ≤ length mid
+        → Ranged j to k mid (r .sc .start)
+    enter-fits {room} {mid} {k} {to} f t n l =
+        let a : w .len ≤ 64 = rw (e .window) (appended-within r j i (f .within) (f .place)) in
+        let b : r .window .len ≤ w .len = rw (e .window) (appended-keeps r j i) in
+        let lo : j ≤ sweptTo w j g = pick-both (λ (x : ℕ). j ≤ x) (g .enters) (omega (arith, f .trigger)) (omega arith) in
+        let hi : sweptTo w j g ≤ 64 = pick-both (λ (x : ℕ). x ≤ 64) (g .enters) a (omega (arith, f .trigger, f .within)) in
+        record { ordered = omega arith; within = omega arith; places = omega (arith, f .place, f .trigger); long = l; low = f .low }
+
+    reply-carried : replyAt r peer m i j ≡ carried r (withBar (r .sc) (r .bars) peer (m .bar)) w i j m (appendActs r i) g
+    unfolding replyAt
+    reply-carried =
+        replied-done r (withFallen (r .sc) (r .bars) peer (m .bar)) (withBar (r .sc) (r .bars) peer (m .bar)) (appended r j i) i j peer m (appendActs r i) (fallen-start (r .sc) (r .bars) peer (m .bar))
+        (omega (arith, e .here, length-appended r j i))
+        ∙ rw (e .weighs, e .scalars, e .window)
+
+    pub reply-refused : (g .answer ≡ 0 → ⊥) → replyAt r peer m i j ≡ kept (g .answer) r
+    reply-refused h = reply-carried ∙ carried-refused r _ w i j m _ g h
+
+    pub reply-full : {b : Bool} → g .answer ≡ 0 → b ≡ (g .noted && overfull (r .keys) (g .slot .batch)) → b ≡ true → replyAt r peer m i j ≡ kept 7 r
+    reply-full a f h = reply-carried ∙ carried-full r _ w i j m _ g a (sym f ∙ h)
+
+    pub reply-told : {room mid after : List ℕ} {k to : ℕ} {p : Placed} {b : Bool} {bars : PeerBars} {keys : KeyTable} → g .answer ≡ 0
+        → b ≡ (g .noted && overfull (r .keys) (g .slot .batch)) → b ≡ false
+        → Promises (r .window .len) (i + 1) 0 (r .sc .start) (r .sc .«bal_prep_sent») room k mid → to ≡ sweptTo w j g
+        → Swept (λ n s. enteredSlot s) (λ n s. enterActs (r .sc .start + n) (m .ballot) s) j to k (placed w i j g) mid p after
+        → bars ≡ withBar (r .sc) (r .bars) peer (m .bar) → keys ≡ pick (g .noted) (refresh (m .slot) (g .slot .batch) (r .keys)) (r .keys)
+        → Told (replyAt r peer m i j)
+        (record { answer = 0; count = p .next; replica = record { sc = g .sc; bars = bars; window = p .window; keys = keys; reads = r .reads } }) room after
+    reply-told {room} {mid} {after} {k} {to} {p} {b} {bars} {keys} a f h x t y u v =
+        let first = appendActs r i in
+        let second = enteredActs r (withBar (r .sc) (r .bars) peer (m .bar)) w i j m first g in
+        let z = rw t at y in
+        let n : k ≡ 0 + length first = omega (arith, x .next, x .many) in
+        acted (first ++ second) _ (p .next) refl (z .next ∙ sym (length-append first second ∙ omega arith))
+        (write-then room mid after first second 0 k (omega arith) n (x .written) (z .written))
+        (reply-carried ∙ carried-acts r _ w i j m first g a (sym f ∙ h) ∙ rw (z .window, u, v))
+
+-- ── the code that weighs, way by way ──
+module _ (sc : Scalars) (s t : Slot) (own : Bool) (peer : ℕ) (m : Reply) where
+  pub weigh-outdated : awaitsPrepare s (m .ballot) ≡ false → unmoved 0 sc s t ≡ weighed sc s t own peer m
+  unfolding weighed
+  weigh-outdated h = rw h
+
+  module _ (h : awaitsPrepare s (m .ballot) ≡ true) {d : Decided} (v : d ≡ decideVote sc s (m .ballot) (m .voted) (m .vote)) where
+    weigh-vote : weighedVote sc s t own peer m d ≡ weighed sc s t own peer m
+    unfolding weighed
+    weigh-vote = rw (h, v)
+
+    pub weigh-refused : (d .answer ≡ 0 → ⊥) → unmoved (d .answer) sc s t ≡ weighed sc s t own peer m
+    weigh-refused a = rw (ne-eqb (d .answer) 0 a) at weigh-vote
+
+    module _ (a : d .answer ≡ 0) {base : Slot} (b : base ≡ pick own (d .slot) t) where
+      pub weigh-more : (m .slot ≡ m .endprep → ⊥)
+          → record { answer = 0; noted = d .noted; enters = false; sc = d .sc; slot = d .slot; trigger = base } ≡ weighed sc s t own peer m
+      weigh-more z = rw b (rw (eq-eqb (d .answer) 0 a, ne-eqb (m .slot) (m .endprep) z) at weigh-vote)
+
+      module _ (z : m .slot ≡ m .endprep) {e : Decided} (k : e ≡ decideCount sc base peer (m .ballot)) where
+        weigh-count : weighedCount sc s t d e ≡ weighed sc s t own peer m
+        weigh-count = rw (k, b) (rw (eq-eqb (d .answer) 0 a, eq-eqb (m .slot) (m .endprep) z) at weigh-vote)
+
+        pub weigh-overtaken : (e .answer ≡ 0 → ⊥) → unmoved (e .answer) sc s t ≡ weighed sc s t own peer m
+        weigh-overtaken n = rw (ne-eqb (e .answer) 0 n) at weigh-count
+
+        pub weigh-counted : {enters : Bool} → e .answer ≡ 0 → enters ≡ isCounted (e .sc) (e .slot)
+            → record { answer = 0; noted = d .noted; enters = enters; sc = e .sc; slot = d .slot; trigger = e .slot } ≡ weighed sc s t own peer m
+        weigh-counted n q = rw q (rw (eq-eqb (e .answer) 0 n) at weigh-count)
+
+-- ── the tests before it ──
+-- a place below the length is a slot below the log end
+place-below : (start slot len : ℕ) → start ≤ slot → ltb (slot - start) len ≡ ltb slot (start + len)
+place-below start slot len h =
+    ⊎-elim
+    (λ (e : ltb slot (start + len) ≡ true). lt-ltb (slot - start) len (omega (arith, ltb-true slot (start + len) e)) ∙ sym e)
+    (λ (e : ltb slot (start + len) ≡ false). le-ltb (slot - start) len (omega (arith, ltb-false slot (start + len) e)) ∙ sym e)
+    (decide (ltb slot (start + len)))
+
+module _ (start len : ℕ) (m : Reply) where
+  pub range-low : m .slot < m .trigger → false ≡ inLog start len m
+  range-low h = rw (lt-leb (m .trigger) (m .slot) h)
+
+  pub range-high : m .endprep < m .slot → false ≡ inLog start len m
+  range-high h = rw (lt-leb (m .slot) (m .endprep) h, and-false)
+
+  pub range-before : m .trigger < start → false ≡ inLog start len m
+  range-before h = rw (lt-leb start (m .trigger) h, and-false, and-false)
+
+  pub range-last : m .trigger ≤ m .slot → m .slot ≤ m .endprep → start ≤ m .trigger → ltb (m .trigger - start) len ≡ inLog start len m
+  range-last a b e =
+      rw (le-leb (m .trigger) (m .slot) a, le-leb (m .slot) (m .endprep) b, le-leb start (m .trigger) e) (place-below start (m .trigger) len e)
+
+  -- what it says of the trigger
+  pub record InLog : Type 0 where
+    pub from : start ≤ m .trigger
+    pub below : m .trigger < start + len
+
+  pub range-facts : inLog start len m ≡ true → InLog
+  range-facts e =
+      let a = and-both (leb (m .trigger) (m .slot)) _ e in
+      let b = and-both (leb (m .slot) (m .endprep)) _ (a .1) in
+      let d = and-both (leb start (m .trigger)) _ (b .1) in
+      record { from = leb-true _ _ (d .0); below = ltb-true _ _ (d .1) }
+
+-- the tests from the ballot on, each where those before it have passed
+abbrev pub bookAt : Replica → Reply → Bool
+bookAt r m = slotAt (r .window) (place (r .sc) (m .trigger)) .leader .present
+
+module _ (r : Replica) (peer : ℕ) (m : Reply) where
+  abbrev tested : Bool → Bool → Bool → Bool → Bool → Outcome
+  tested a b d e f =
+      pick (not a) (kept 0 r)
+      (pick (not b) (kept 4 r)
+      (pick (not d) (kept 6 r)
+      (pick (not e) (kept 0 r) (pick f (kept 5 r) (replyAt r peer m (place (r .sc) (m .slot)) (place (r .sc) (m .trigger)))))))
+
+  on-tested : (a b d e f : Bool) → eqb (m .ballot) (r .sc .«bal_prep_sent») ≡ a → leads (r .sc) ≡ b → inRange r m ≡ d → bookAt r m ≡ e
+      → leb (r .sc .start + 64) (m .slot) ≡ f → replyOn r peer m ≡ tested a b d e f
+  unfolding replyOn replyAt
+  on-tested a b d e f p q s t u = rw (← p, ← q, ← s, ← t, ← u)
+
+  pub on-other : (m .ballot ≡ r .sc .«bal_prep_sent» → ⊥) → replyOn r peer m ≡ kept 0 r
+  on-other h = on-tested false _ _ _ _ (ne-eqb _ _ h) refl refl refl refl
+
+  module _ (p : m .ballot ≡ r .sc .«bal_prep_sent») where
+    pub on-follower : leads (r .sc) ≡ false → replyOn r peer m ≡ kept 4 r
+    on-follower h = on-tested true false _ _ _ (eq-eqb _ _ p) h refl refl refl
+
+    module _ (q : leads (r .sc) ≡ true) where
+      pub on-outside : inRange r m ≡ false → replyOn r peer m ≡ kept 6 r
+      on-outside h = on-tested true true false _ _ (eq-eqb _ _ p) q h refl refl
+
+      module _ (s : inRange r m ≡ true) where
+        pub on-bookless : bookAt r m ≡ false → replyOn r peer m ≡ kept 0 r
+        on-bookless h = on-tested true true true false _ (eq-eqb _ _ p) q s h refl
+
+        module _ (t : bookAt r m ≡ true) where
+          pub on-past : r .sc .start + 64 ≤ m .slot → replyOn r peer m ≡ kept 5 r
+          on-past h = on-tested true true true true true (eq-eqb _ _ p) q s t (le-leb _ _ h)
+
+          pub on-at : m .slot < r .sc .start + 64 → replyOn r peer m ≡ replyAt r peer m (place (r .sc) (m .slot)) (place (r .sc) (m .trigger))
+          on-at h = on-tested true true true true false (eq-eqb _ _ p) q s t (lt-leb _ _ h)
+
+-- the call's own tests
+made-answer : (b : Batch) → eqb (makeBatch (b .id) (b .count) (b .keys) .answer) 0 ≡ isBatch (b .id) (b .count)
+unfolding makeBatch
+made-answer b = pick-cases (λ (x : Made). eqb (x .answer) 0 ≡ isBatch (b .id) (b .count)) (isBatch (b .id) (b .count)) (λ t. sym t) (λ t. sym t)
+
+module _ (r : Replica) (room peer : ℕ) (m : Reply) where
+  abbrev pub replyTested : Outcome
+  replyTested =
+      pick (m .voted && not (isBatch (m .vote .batch .id) (m .vote .batch .count))) (kept 10 r)
+      (pick (ltb (m .slot) (r .sc .start)) (kept 0 r) (replyOn r peer (cleanReply m)))
+
+  pub reply-gate : prepareReplyStep r room peer m ≡ pick (not (eqb (fromPeer r room peer) 0)) (kept (fromPeer r room peer) r) replyTested
+  unfolding prepareReplyStep
+  reply-gate = gate-peer r room peer replyTested
+
+  module _ {made : Made} {bad : Bool} (e : made ≡ makeBatch (m .vote .batch .id) (m .vote .batch .count) (m .vote .batch .keys)) (f : bad ≡ (m .voted && not (eqb (made .answer) 0))) where
+    vote-tested : (m .voted && not (isBatch (m .vote .batch .id) (m .vote .batch .count))) ≡ bad
+    vote-tested = sym (f ∙ rw (e, made-answer (m .vote .batch)))
+
+    pub reply-bad : bad ≡ true → replyTested ≡ kept 10 r
+    reply-bad h = rw (vote-tested, h)
+
+    module _ (h : bad ≡ false) where
+      pub reply-below : m .slot < r .sc .start → replyTested ≡ kept 0 r
+      reply-below l = rw (vote-tested, h, lt-ltb (m .slot) (r .sc .start) l)
+
+      pub reply-goes : {n : Reply} → n ≡ withVoted m (made .batch) → r .sc .start ≤ m .slot → replyTested ≡ replyOn r peer n
+      reply-goes g l = rw (vote-tested, h, le-ltb (m .slot) (r .sc .start) l, g, e)
+
+  pub reply-fits : {lent : List ℕ} {b : Batch} {n : Reply} → fromPeer r (length lent) peer ≡ 0 → n ≡ withVoted m b → r .sc .start ≤ m .slot → ReplyFits r lent n
+  reply-fits {lent} {b} {n} e f l =
+      let a = peer-facts r (length lent) peer e .facts in
+      record { long = a .long; low = a .low; within = a .within; from = omega (arith, ap (λ (x : Reply). x .slot) f) }

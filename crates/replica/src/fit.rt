@@ -1,0 +1,283 @@
+// A new replica, the fit test (answer 1), and what every call is tested for first.
+ghost use mathlib.Core.Path.{_≡_};
+ghost use Prim.Native.Nat.{_≤_};
+ghost use mathlib.Core.Bool.{_||_};
+ghost use lib.Dec.{eqb, ltb};
+ghost use Rattle.replica.specs.Record.{mayBe, noSlots, newReplica};
+ghost use Rattle.replica.specs.Fit.{fitScalars, fitSlots, fitRead, fitReads, fit, ready};
+ghost use Rattle.replica.specs.Admit.{fromMember, fromPeer, fromOwner};
+use super::Handled;
+use super::Made;
+use super::Replica;
+use super::Window;
+use batch::empty_table;
+use decide::PeerBars;
+use decide::Scalars;
+use slots::null_slot;
+use tally::Read;
+use tally::Reads;
+use tally::open_reads::no_reads;
+
+// Whether a new replica may have these numbers.
+fn may_be(id: u64, group: u64, start: u64, options: u64) -> bool
+    ensures { λ r. ⌜ r ≡ mayBe id group start options ⌝ }
+{
+    if !members::is_group_size(group) {
+        return false;
+    }
+    if group <= id {
+        return false;
+    }
+    if 4294967296 < start {
+        return false;
+    }
+    options <= 3
+}
+
+// No slots.
+fn no_slots() -> Window
+    ensures { λ r. ⌜ r ≡ noSlots ⌝ }
+{
+    let null = null_slot();
+    Window {
+        len: 0,
+        slots: [null; 64],
+    }
+}
+
+// Whether the leader is nobody or a member.
+fn known_leader(leader: u64, group: u64) -> bool
+    ensures { λ r. ⌜ r ≡ (eqb leader 255 || ltb leader group) ⌝ }
+{
+    if leader == 255 {
+        return true;
+    }
+    leader < group
+}
+
+// Whether the numbers are fit for a log of so many slots.
+fn fit_scalars(sc: Scalars, len: usize) -> bool
+    ensures { λ r. ⌜ r ≡ fitScalars sc len ⌝ }
+{
+    if !members::is_group_size(sc.group) {
+        return false;
+    }
+    if sc.group <= sc.id {
+        return false;
+    }
+    if 4294967296 < sc.start {
+        return false;
+    }
+    if 64 < len {
+        return false;
+    }
+    if !known_leader(sc.leader, sc.group) {
+        return false;
+    }
+    if sc.exec_bar < sc.start {
+        return false;
+    }
+    if sc.commit_bar < sc.exec_bar {
+        return false;
+    }
+    let end = sc.start + len as u64;
+    if end < sc.commit_bar {
+        return false;
+    }
+    if sc.accept_bar < sc.start {
+        return false;
+    }
+    sc.accept_bar <= end
+}
+
+// Whether every slot in use is fit.
+fn fit_slots(w: Window, group: u64) -> bool
+    requires { ⌜ w .len ≤ 64 ⌝ }
+    ensures { λ r. ⌜ r ≡ fitSlots group w ⌝ }
+{
+    for i in 0..w.len {
+        let s = w.slots[i];
+        if !s.is_fit(group) {
+            return false;
+        }
+    }
+    true
+}
+
+fn fit_read(read: Read, group: u64) -> bool
+    ensures { λ r. ⌜ r ≡ fitRead group read ⌝ }
+{
+    if 8 < read.tally.count {
+        return false;
+    }
+    members::within(read.acks, group)
+}
+
+// Whether every read in use is fit.
+fn fit_reads(rs: Reads, group: u64) -> bool
+    ensures { λ r. ⌜ r ≡ fitReads group rs ⌝ }
+{
+    if 16 < rs.count {
+        return false;
+    }
+    for i in 0..rs.count {
+        let read = rs.reads[i];
+        if !fit_read(read, group) {
+            return false;
+        }
+    }
+    true
+}
+
+impl Replica {
+    // A new replica: answer 10 and the all-zero record where its numbers are outside 01's.
+    pub fn new(id: u64, group: u64, start: u64, options: u64) -> Made
+        ensures { λ r. ⌜ r ≡ newReplica id group start options ⌝ }
+    {
+        let window = no_slots();
+        let keys = empty_table();
+        let reads = no_reads();
+        if !may_be(id, group, start, options) {
+            let sc = Scalars {
+                id: 0,
+                group: 0,
+                start: 0,
+                options: 0,
+                leader: 0,
+                bal_prep_sent: 0,
+                bal_prepared: 0,
+                bal_max_seen: 0,
+                accept_bar: 0,
+                commit_bar: 0,
+                exec_bar: 0,
+                wal_offset: 0,
+                peer_accept_max: 0,
+            };
+            let bars = PeerBars {
+                own: false,
+                bars: [0; 9],
+            };
+            let replica = Replica {
+                sc: sc,
+                bars: bars,
+                window: window,
+                keys: keys,
+                reads: reads,
+            };
+            return Made {
+                answer: 10,
+                replica: replica,
+            };
+        }
+        let sc = Scalars {
+            id: id,
+            group: group,
+            start: start,
+            options: options,
+            leader: 255,
+            bal_prep_sent: 0,
+            bal_prepared: 0,
+            bal_max_seen: 0,
+            accept_bar: start,
+            commit_bar: start,
+            exec_bar: start,
+            wal_offset: 0,
+            peer_accept_max: 18446744073709551615,
+        };
+        let bars = PeerBars {
+            own: false,
+            bars: [18446744073709551615; 9],
+        };
+        let replica = Replica {
+            sc: sc,
+            bars: bars,
+            window: window,
+            keys: keys,
+            reads: reads,
+        };
+        Made {
+            answer: 0,
+            replica: replica,
+        }
+    }
+
+    // Whether calls may be made on the record.
+    pub(crate) fn is_fit(self) -> bool
+        ensures { λ r. ⌜ r ≡ fit self ⌝ }
+    {
+        let w = self.window;
+        if !fit_scalars(self.sc, w.len) {
+            return false;
+        }
+        if !fit_slots(w, self.sc.group) {
+            return false;
+        }
+        if 256 < self.keys.count {
+            return false;
+        }
+        let reads = self.reads;
+        fit_reads(reads, self.sc.group)
+    }
+
+    // Whether the room is long enough and the record fit: else 1.
+    pub(crate) fn is_ready(self, room: usize) -> bool
+        ensures { λ r. ⌜ r ≡ ready self room ⌝ }
+    {
+        if room < 3456 {
+            return false;
+        }
+        self.is_fit()
+    }
+
+    // 1, 2 where the call comes from no member, or 0.
+    pub(crate) fn from_member(self, room: usize, member: u64) -> u64
+        ensures { λ r. ⌜ r ≡ fromMember self room member ⌝ }
+    {
+        if !self.is_ready(room) {
+            return 1;
+        }
+        if self.sc.group <= member {
+            return 2;
+        }
+        0
+    }
+
+    // 1, 2 where the call comes from no other member, or 0.
+    pub(crate) fn from_peer(self, room: usize, peer: u64) -> u64
+        ensures { λ r. ⌜ r ≡ fromPeer self room peer ⌝ }
+    {
+        if !self.is_ready(room) {
+            return 1;
+        }
+        let sc = self.sc;
+        if !sc.is_peer(peer) {
+            return 2;
+        }
+        0
+    }
+
+    // The same, 3 where the sender is not the ballot's owner, or 0.
+    pub(crate) fn from_owner(self, room: usize, peer: u64, ballot: u64) -> u64
+        ensures { λ r. ⌜ r ≡ fromOwner self room peer ballot ⌝ }
+    {
+        let first = self.from_peer(room, peer);
+        if first != 0 {
+            return first;
+        }
+        if !members::is_owner(ballot, peer) {
+            return 3;
+        }
+        0
+    }
+
+    // Refused or ignored: an answer and no actions.
+    pub(crate) fn kept(self, answer: u64) -> Handled
+        ensures { λ r. ⌜ r ≡ record { answer = answer; count = 0; replica = self } ⌝ }
+    {
+        Handled {
+            answer: answer,
+            count: 0,
+            replica: self,
+        }
+    }
+}
