@@ -151,7 +151,7 @@ fn lines(whose: &str, lines: &[&str]) -> String {
     if lines.is_empty() {
         return format!("{whose}: no more lines\n");
     }
-    lines.iter().map(|line| format!("{whose}: {line}\n")).collect()
+    lines.iter().map(|line| format!("{whose}: {}\n", line.escape_debug())).collect()
 }
 
 const ANSWER: &str = "number answer actions bal_max_seen accept_bar commit_bar exec_bar";
