@@ -195,7 +195,11 @@ fn named_differences(ours: &str, theirs: &str) -> String {
 #[cfg(test)]
 mod tests {
     use super::*;
-    use crate::generate::worked_example;
+    use crate::generate::example;
+
+    fn worked_example() -> Vec<u8> {
+        example("worked").expect("it is there")
+    }
 
     fn told() -> String {
         let mut text = Text::default();

@@ -24,7 +24,8 @@ const USAGE: &str = "usage:
                    what the trace reaches, or what the named traces reach together
   oracle gen SEED COUNT --profile group|fuzz|reads|mix|writes
                    writes a trace of COUNT records, fixed by the seed
-  oracle example   writes 01's worked example as a trace";
+  oracle example worked|keys
+                   writes a trace made by hand: 01's worked example, or the key table's edge";
 
 enum Command {
     Replay,
@@ -33,7 +34,7 @@ enum Command {
     Baseline,
     Agree { trace: String },
     Stats { traces: Vec<String> },
-    Example,
+    Example { trace: Vec<u8> },
     Generate { seed: u64, count: u64, profile: Profile },
 }
 
@@ -70,7 +71,11 @@ fn parse(words: &[String]) -> Result<Command, String> {
         ["baseline"] => Ok(Command::Baseline),
         ["agree", trace] => Ok(Command::Agree { trace: trace.to_string() }),
         ["agree", ..] => Err("agree takes TRACE".to_string()),
-        ["example"] => Ok(Command::Example),
+        ["example", name] => Ok(Command::Example {
+            trace: generate::example(name)
+                .ok_or_else(|| format!("no example is called '{name}'"))?,
+        }),
+        ["example", ..] => Err("example takes a name".to_string()),
         ["stats", traces @ ..] => {
             Ok(Command::Stats { traces: traces.iter().map(|name| name.to_string()).collect() })
         }
@@ -81,7 +86,7 @@ fn parse(words: &[String]) -> Result<Command, String> {
                 .ok_or_else(|| format!("no profile is called '{profile}'"))?,
         }),
         ["gen", ..] => Err("gen takes SEED COUNT --profile NAME".to_string()),
-        [name @ ("replay" | "tell" | "digest" | "baseline" | "example"), ..] => {
+        [name @ ("replay" | "tell" | "digest" | "baseline"), ..] => {
             Err(format!("{name} takes no arguments"))
         }
         [name, ..] => Err(format!("no command is called '{name}'")),
@@ -127,7 +132,7 @@ fn run(command: Command) -> io::Result<ExitCode> {
             }
             output.write_all(stats.report().as_bytes())?;
         }
-        Command::Example => output.write_all(&generate::worked_example())?,
+        Command::Example { trace } => output.write_all(&trace)?,
         Command::Generate { seed, count, profile } => {
             generate::generate(seed, count, profile, |bytes| output.write_all(bytes))?;
         }

@@ -4,7 +4,7 @@ use std::io::Write;
 use std::process::{Command, Output, Stdio};
 
 use oracle::call::Call;
-use oracle::generate::worked_example;
+use oracle::generate::example;
 use oracle::record::Record;
 
 fn oracle(words: &[&str], input: &[u8]) -> Output {
@@ -28,6 +28,10 @@ fn printed(words: &[&str], input: &[u8]) -> String {
     let output = oracle(words, input);
     assert!(output.status.success(), "{output:?}");
     String::from_utf8(output.stdout).expect("the text is ASCII")
+}
+
+fn worked_example() -> Vec<u8> {
+    example("worked").expect("it is there")
 }
 
 fn bytes(calls: &[Call]) -> Vec<u8> {
@@ -148,7 +152,7 @@ fn a_trace_that_is_not_there_is_an_error() {
 
 #[test]
 fn bad_usage_is_an_error() {
-    let bad: [&[&str]; 14] = [
+    let bad: [&[&str]; 15] = [
         &[],
         &["baseline", "trace"],
         &["agree"],
@@ -156,6 +160,7 @@ fn bad_usage_is_an_error() {
         &["play"],
         &["replay", "trace"],
         &["tell", "-"],
+        &["example"],
         &["example", "2"],
         &["gen"],
         &["gen", "1", "2"],

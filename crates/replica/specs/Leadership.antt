@@ -9,7 +9,7 @@ use Rattle.base.specs.Find.{last}
 use Rattle.base.specs.Scan.{scan}
 use Rattle.members.specs.declared.NextBallot.{NextBallot}
 use Rattle.members.specs.declared.NextBallot.the-variants.{Ballot, Spent}
-use Rattle.members.specs.Ballots.{owns, nextBallot}
+use Rattle.members.specs.Ballots.{owns, nextBallot, nextAnswer}
 use Rattle.actions.specs.declared.Action.the-variants.{CommitSlot, Prepare, Heartbeat, StatusUp}
 use Rattle.actions.specs.Actions.{Act, bare}
 use Rattle.slots.specs.declared.Slot.{Slot}
@@ -58,7 +58,7 @@ leadOn r w trigger endprep ballot =
 
 -- 8: no ballot left, then "first uncommitted slot below exec_bar"; "With no uncommitted slot it appends one null slot" (5)
 unfoldable pub stepUp : Replica → NextBallot → Outcome
-stepUp r Spent = kept 8 r
+stepUp r Spent = kept (nextAnswer Spent) r
 stepUp r (Ballot b) =
     pick (ltb (number (r .sc) (firstOpen (r .window))) (r .sc .«exec_bar»)) (kept 8 r)
     (pick (leb 64 (firstOpen (r .window))) (kept 5 r)

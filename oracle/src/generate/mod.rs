@@ -1,5 +1,6 @@
 //! Traces that a seed fixes.
 
+mod examples;
 mod group;
 mod habits;
 mod reads;
@@ -9,11 +10,10 @@ mod wild;
 
 use std::io;
 
+pub use examples::{EXAMPLES, example};
 use group::World;
 use habits::Habits;
 use rng::Rng;
-
-use crate::call::{Call, Entry};
 
 #[derive(Debug, Clone, Copy, PartialEq, Eq)]
 pub enum Profile {
@@ -42,19 +42,6 @@ impl Profile {
     fn is_damaged(self) -> bool {
         matches!(self, Profile::Fuzz | Profile::Mix)
     }
-}
-
-/// 01's worked example: a group of one commits its first slot.
-pub fn worked_example() -> Vec<u8> {
-    let done = |entry, size| Call::LogDone { entry, slot: 0, size };
-    let calls = [
-        Call::New { id: 0, group: 1, start: 0, options: 0 },
-        Call::Timeout { source: 0 },
-        done(Entry::PrepareBal, 40),
-        done(Entry::AcceptData, 80),
-        done(Entry::CommitSlot, 120),
-    ];
-    calls.iter().flat_map(|call| call.to_record().encode()).collect()
 }
 
 /// Writes `count` records: what one member of each of many groups received.

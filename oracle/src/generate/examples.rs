@@ -1,0 +1,85 @@
+//! Traces made by hand.
+
+use crate::batch::Batch;
+use crate::call::{Call, Entry};
+
+/// Name, and the calls.
+pub const EXAMPLES: [(&str, fn() -> Vec<Call>); 2] = [("worked", worked), ("keys", full_key_table)];
+
+pub fn example(name: &str) -> Option<Vec<u8>> {
+    let (_, calls) = EXAMPLES.iter().find(|known| known.0 == name)?;
+    Some(calls().iter().flat_map(|call| call.to_record().encode()).collect())
+}
+
+/// 01's worked example: a group of one commits its first slot.
+fn worked() -> Vec<Call> {
+    let done = |entry, size| Call::LogDone { entry, slot: 0, size };
+    vec![
+        new_member(0, 1),
+        Call::Timeout { source: 0 },
+        done(Entry::PrepareBal, 40),
+        done(Entry::AcceptData, 80),
+        done(Entry::CommitSlot, 120),
+    ]
+}
+
+/// 7 at its edge, by Accept, by offer and by a vote: one free place in the highest-slot table, and
+/// lists with two new keys, with one new key twice, and with none.
+fn full_key_table() -> Vec<Call> {
+    let mut calls = vec![new_member(2, 3)];
+    let accept =
+        |peer: u8, slot, batch| Call::Accept { peer, slot, ballot: 257 + u64::from(peer), batch };
+    calls.extend(fill().enumerate().map(|(slot, batch)| accept(0, slot as u64, batch)));
+    calls.extend(edge_lists().map(|batch| accept(0, 32, batch)));
+
+    calls.push(new_member(0, 3));
+    calls.push(Call::Timeout { source: 0 });
+    calls.push(Call::LogDone { entry: Entry::PrepareBal, slot: 0, size: 9 });
+    calls.push(reply(1, 257, (0, 0, 0), None));
+    calls.extend(fill().chain(edge_lists()).map(|batch| Call::Offer { batch }));
+
+    // A vote is adopted at a larger ballot only, and only then its keys are looked at.
+    calls.push(new_member(0, 3));
+    calls.extend(fill().enumerate().map(|(slot, batch)| accept(1, slot as u64, batch)));
+    calls.push(Call::Timeout { source: 1 });
+    let ballots = [0, 258, 258, 300, 300, 301, 301, 302];
+    for (voted, batch) in ballots.into_iter().zip(edge_lists().chain(edge_lists())) {
+        calls.push(reply(1, 513, (5, 0, 31), Some((voted, batch))));
+        calls.push(reply(2, 513, (5, 0, 31), Some((voted, batch))));
+        calls.push(reply(2, 513, (40, 0, 40), Some((1, Batch::new(7, &[950, 951])))));
+    }
+    calls.push(reply(2, 513, (40, 0, 40), Some((1, Batch::new(7, &[900])))));
+    calls.push(Call::LogDone { entry: Entry::PrepareBal, slot: 3, size: 9 });
+    calls
+}
+
+fn new_member(id: u8, group: u8) -> Call {
+    Call::New { id, group, start: 0, options: 0 }
+}
+
+/// A PrepareReply for slot, trigger and endprep.
+fn reply(peer: u8, ballot: u64, at: (u64, u64, u64), vote: Option<(u64, Batch)>) -> Call {
+    let (slot, trigger, endprep) = at;
+    Call::PrepareReply { peer, slot, trigger, endprep, ballot, vote, bar: 0 }
+}
+
+/// 32 batches with 255 different keys.
+fn fill() -> impl Iterator<Item = Batch> {
+    (0..32).map(|place| {
+        let keys: Vec<u64> = (8 * place..(8 * place + 8).min(255)).collect();
+        Batch::new(place + 1, &keys)
+    })
+}
+
+/// With one place free: too many, too many, as many, none, too many, none.
+fn edge_lists() -> impl Iterator<Item = Batch> {
+    let lists: [&[u64]; 6] = [
+        &[900, 901],
+        &[0, 900, 900, 1, 901],
+        &[900, 900, 254, 900],
+        &[900, 0, 0, 900],
+        &[901, 901],
+        &[],
+    ];
+    lists.into_iter().map(|keys| Batch::new(100, keys))
+}
