@@ -3,8 +3,10 @@
 use crate::batch::Batch;
 use crate::call::{Call, Entry};
 
-/// Name, and the calls.
-pub const EXAMPLES: [(&str, fn() -> Vec<Call>); 2] = [("worked", worked), ("keys", full_key_table)];
+/// A name, and the calls.
+type Example = (&'static str, fn() -> Vec<Call>);
+
+const EXAMPLES: [Example; 2] = [("worked", worked), ("keys", full_key_table)];
 
 pub fn example(name: &str) -> Option<Vec<u8>> {
     let (_, calls) = EXAMPLES.iter().find(|known| known.0 == name)?;

@@ -10,7 +10,7 @@ mod wild;
 
 use std::io;
 
-pub use examples::{EXAMPLES, example};
+pub use examples::example;
 use group::World;
 use habits::Habits;
 use rng::Rng;
