@@ -6,7 +6,13 @@ use crate::call::{Call, Entry};
 /// A name, and the calls.
 type Example = (&'static str, fn() -> Vec<Call>);
 
-const EXAMPLES: [Example; 2] = [("worked", worked), ("keys", full_key_table)];
+const EXAMPLES: [Example; 5] = [
+    ("worked", worked),
+    ("keys", full_key_table),
+    ("late-0", late_at_0),
+    ("late-1", late_at_1),
+    ("late-2", late_at_2),
+];
 
 pub fn example(name: &str) -> Option<Vec<u8>> {
     let (_, calls) = EXAMPLES.iter().find(|known| known.0 == name)?;
@@ -15,13 +21,12 @@ pub fn example(name: &str) -> Option<Vec<u8>> {
 
 /// 01's worked example: a group of one commits its first slot.
 fn worked() -> Vec<Call> {
-    let done = |entry, size| Call::LogDone { entry, slot: 0, size };
     vec![
         new_member(0, 1),
         Call::Timeout { source: 0 },
-        done(Entry::PrepareBal, 40),
-        done(Entry::AcceptData, 80),
-        done(Entry::CommitSlot, 120),
+        done(Entry::PrepareBal, 0, 40),
+        done(Entry::AcceptData, 0, 80),
+        done(Entry::CommitSlot, 0, 120),
     ]
 }
 
@@ -53,6 +58,68 @@ fn full_key_table() -> Vec<Call> {
     calls.push(reply(2, 513, (40, 0, 40), Some((1, Batch::new(7, &[900])))));
     calls.push(Call::LogDone { entry: Entry::PrepareBal, slot: 3, size: 9 });
     calls
+}
+
+/// What demand 3 does not promise, as the three members of one group see it: a deposed leader's
+/// Accept is answered after a newer Prepare, since a log completion names no ballot. Member 1
+/// commits slot 1 empty at ballot 514, member 2 commits it with batch 7 at ballot 771.
+fn late_at_0() -> Vec<Call> {
+    vec![
+        urgent_member(0),
+        Call::Timeout { source: 0 },
+        done(Entry::PrepareBal, 0, 40),
+        reply(1, 257, (0, 0, 0), None),
+        Call::Offer { batch: seven() },
+        Call::Prepare { peer: 1, trigger: 0, ballot: 514 },
+        done(Entry::PrepareBal, 0, 80),
+        done(Entry::PrepareBal, 1, 120),
+        Call::Prepare { peer: 2, trigger: 0, ballot: 771 },
+        done(Entry::PrepareBal, 0, 160),
+        done(Entry::PrepareBal, 1, 200),
+        Call::Accept { peer: 2, slot: 1, ballot: 771, batch: seven() },
+        done(Entry::AcceptData, 1, 240),
+    ]
+}
+
+fn late_at_1() -> Vec<Call> {
+    vec![
+        urgent_member(1),
+        Call::Prepare { peer: 0, trigger: 0, ballot: 257 },
+        done(Entry::PrepareBal, 0, 40),
+        Call::Timeout { source: 0 },
+        done(Entry::PrepareBal, 0, 80),
+        reply(0, 514, (0, 0, 1), None),
+        reply(0, 514, (1, 0, 1), None),
+        done(Entry::AcceptData, 1, 120),
+        Call::AcceptReply { peer: 2, slot: 1, ballot: 514 },
+    ]
+}
+
+fn late_at_2() -> Vec<Call> {
+    vec![
+        urgent_member(2),
+        Call::Accept { peer: 0, slot: 1, ballot: 257, batch: seven() },
+        Call::Prepare { peer: 1, trigger: 0, ballot: 514 },
+        done(Entry::AcceptData, 1, 40),
+        Call::Timeout { source: 1 },
+        done(Entry::PrepareBal, 0, 80),
+        done(Entry::PrepareBal, 1, 120),
+        reply(0, 771, (1, 0, 1), None),
+        done(Entry::AcceptData, 1, 160),
+        Call::AcceptReply { peer: 0, slot: 1, ballot: 771 },
+    ]
+}
+
+fn urgent_member(id: u8) -> Call {
+    Call::New { id, group: 3, start: 0, options: 1 }
+}
+
+fn done(entry: Entry, slot: u64, size: u64) -> Call {
+    Call::LogDone { entry, slot, size }
+}
+
+fn seven() -> Batch {
+    Batch::new(7, &[5])
 }
 
 fn new_member(id: u8, group: u8) -> Call {
