@@ -1,0 +1,34 @@
+-- The laws of moving bytes to the front.
+use mathlib.Core.Path.{_≡_, refl, sym, _∙_, ap}
+use mathlib.Core.List.{List}
+use Prim.Native.Nat.{ℕ, zero, suc, _+_, _-_, _%_, _≤_, _<_}
+use native.Mathlib.Omega.{arith}
+use native.Mathlib.Numerals.{add-one}
+use native.Mathlib.Nat.{zero-add, add-comm}
+use lib.ListN.{length, length-drop, getD, set, drop}
+use lib.Seq.{paste, paste-zero, paste-suc, drop-paste, getD-drop}
+use borrow.Author.Tests.{le-leb, lt-leb}
+use Rattle.feed.specs.Feed.{fronted, Fronted}
+
+module _ (bytes : List ℕ) (n : ℕ) where
+  pub fronts-none : length bytes < n → Fronted bytes n 0 bytes
+  unfolding fronted
+  fronts-none h = let e = lt-leb n (length bytes) h in record { count = rw e; moved = rw e }
+
+  pub fronts-all : (r i : ℕ) (after : List ℕ) → n ≤ length bytes → r ≡ n % 256 → i ≡ r → after ≡ paste bytes 0 (drop (n - n % 256) bytes) i → Fronted bytes n r after
+  unfolding fronted
+  fronts-all r i after h e f g = let k = le-leb n (length bytes) h in record { count = rw k e; moved = rw k (g ∙ ap (paste bytes 0 (drop (n - n % 256) bytes)) (f ∙ e)) }
+
+-- a byte moved: from `from + i` to i, where the first i are moved
+pub front-turn : (bytes b : List ℕ) (from i : ℕ) → from + i < length bytes → b ≡ paste bytes 0 (drop from bytes) i
+    → set b i (getD b (from + i) 0) ≡ paste bytes 0 (drop from bytes) (i + 1)
+front-turn bytes b from i h e =
+    let s : List ℕ = drop from bytes in
+    let k : i < length s = omega (arith, length-drop from bytes) in
+    let d : drop i b ≡ drop i bytes =
+    ap (drop i) e ∙ ap (λ (x : ℕ). drop x (paste bytes 0 s i)) (sym (zero-add i)) ∙ drop-paste bytes 0 s i (omega arith) (omega arith) ∙ ap (λ (x : ℕ). drop x bytes) (zero-add i) in
+    let v : getD b (from + i) 0 ≡ getD s i 0 =
+    ap (λ (x : ℕ). getD b x 0) (add-comm from i) ∙ sym (getD-drop i b from 0) ∙ ap (λ (l : List ℕ). getD l from 0) d ∙ getD-drop i bytes from 0
+    ∙ ap (λ (x : ℕ). getD bytes x 0) (add-comm i from) ∙ sym (getD-drop from bytes i 0) in
+    let w : set (paste bytes 0 s i) (0 + i) (getD s i 0) ≡ paste bytes 0 s (suc i) = paste-suc bytes 0 s i 0 (omega arith) k in
+    rw (add-one i, v, e) (ap (λ (x : ℕ). set (paste bytes 0 s i) x (getD s i 0)) (sym (zero-add i)) ∙ w)

@@ -1,0 +1,70 @@
+// A trace as it comes in on standard input, and text as it goes out: what is read is added to the bytes of a record begun.
+ghost use Prim.Native.Nat.{_≤_};
+ghost use mathlib.Core.Path.{_≡_};
+ghost use lib.ListN.{length, drop};
+ghost use Rattle.feed.specs.Feed.{Fronted};
+use libc::STDIN_FILENO;
+use libc::STDOUT_FILENO;
+
+// What a read left: how many bytes there are now, and whether there is no more to come.
+pub struct Input {
+    pub have: usize,
+    pub ended: bool,
+    pub failed: bool,
+}
+
+// Reads once, behind the first `have` bytes. Where the read fails, standard error says so.
+pub fn read_more(bytes: &mut [u8], have: usize) -> Input
+    ensures { λ r. ⌜ r .have ≤ length (now (bytes .exit)) ⌝ }
+{
+    if bytes.len() < have {
+        return Input {
+            have: 0,
+            ended: true,
+            failed: false,
+        };
+    }
+    let got = libc::read(STDIN_FILENO, &mut bytes[have..]);
+    if got < 0 {
+        os::fail(b"standard input");
+        return Input {
+            have: have,
+            ended: true,
+            failed: true,
+        };
+    }
+    let more = io::count(got, &bytes[have..]);
+    Input {
+        have: have + more,
+        ended: more == 0,
+        failed: false,
+    }
+}
+
+// Moves what stands past the last whole record of the first n bytes to the front, and gives how many bytes that is; where there
+// are not n bytes, 0, and nothing changes.
+pub fn keep_rest(bytes: &mut [u8], n: usize) -> usize
+    ensures { λ r. ⌜ Fronted (now (bytes .entry)) n r (now (bytes .exit)) ⌝ }
+{
+    if bytes.len() < n {
+        return 0;
+    }
+    let rest = n % 256;
+    let from = n - rest;
+    for i in 0..rest {
+        bytes[i] = bytes[from + i];
+    }
+    rest
+}
+
+// Writes the first n bytes of a text to standard output. Where that fails, standard error says so.
+pub fn write_text(text: &[u8], n: usize) -> bool {
+    if text.len() < n {
+        return false;
+    }
+    let done = io::write_all(STDOUT_FILENO, &text[0..n]);
+    if !done {
+        os::fail(b"standard output");
+    }
+    done
+}

@@ -1,0 +1,4 @@
+pub mod Play
+pub mod Lines
+pub mod Laws
+pub mod LineLaws
