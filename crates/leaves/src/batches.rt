@@ -127,9 +127,54 @@ fn last(t: KeyTable) {
     say::end();
 }
 
+fn noted(count: usize, key: u64, slot: u64) {
+    say::label(b"note");
+    say::three(count as u64, key, slot);
+    say::end();
+}
+
+fn over(used: &[u64; 256], count: usize, b: Batch) {
+    say::label(b"over");
+    say::flag(batch::overfull_in(used, count, b));
+    say::end();
+}
+
+fn first(count: usize) {
+    say::label(b"first");
+    say::eight(batch::first_keys(count, [1, 2, 3, 4, 5, 6, 7, 8]));
+    say::end();
+}
+
+// The lent forms: a new key, a smaller slot, a batch, a full table; 7 at a full table for a new and a known key, and with one place left.
+fn lent() {
+    let mut keys = [0u64; 256];
+    let mut slots = [0u64; 256];
+    let a = batch::note(&mut keys, &mut slots, 0, 10, 3);
+    noted(a, keys[0], slots[0]);
+    let b = batch::note(&mut keys, &mut slots, a, 10, 2);
+    noted(b, keys[0], slots[0]);
+    let c = batch::note_batch(
+        &mut keys,
+        &mut slots,
+        b,
+        7,
+        of(1, 2, [10, 20, 0, 0, 0, 0, 0, 0]),
+    );
+    noted(c, keys[0], slots[0]);
+    let d = batch::note(&mut keys, &mut slots, 256, 99, 1);
+    noted(d, keys[0], slots[0]);
+    over(&keys, 256, of(2, 1, [99, 0, 0, 0, 0, 0, 0, 0]));
+    over(&keys, 256, of(2, 1, [10, 0, 0, 0, 0, 0, 0, 0]));
+    over(&keys, 255, of(2, 1, [99, 0, 0, 0, 0, 0, 0, 0]));
+}
+
 pub fn run() {
     makes();
     sames();
     tables();
     fulls();
+    lent();
+    first(2);
+    first(9);
+    first(0);
 }

@@ -17,7 +17,9 @@ use Rattle.tally.specs.declared.Tally.{Tally}
 use Rattle.tally.specs.Merge.{noBest, bestNumbers, bestAt, merge}
 use Rattle.tally.specs.Open.{noRead, findRead, openRead, closeRead, putRead, replyTo}
 use Rattle.actions.specs.Actions.{flat, numbersOf}
+use Rattle.slots.specs.declared.Slot.{Slot}
 use Rattle.slots.specs.Slots.{noVote, fitSlot}
+use Rattle.decide.specs.declared.Scalars.{Scalars}
 use Rattle.decide.specs.Bars.{notAbove, leastMajority, withBar, withFallen}
 use Rattle.decide.specs.Decide.{decideAccept, decideAcceptReply, decideVote, decideCount, decidePromised, decideAccepted, decideOffer}
 use Rattle.replica.specs.declared.Replica.{Replica}
@@ -42,23 +44,57 @@ look r =
     ∷ bestNumbers (bestAt (getD (r .reads .reads) 0 noRead .tally) 0) .2
     ∷ []
 
--- one call, and what is to come of it: the answer, what is seen after it, the actions' numbers
+-- one call, and what is to come of it: the answer, what is seen after it, the actions' numbers, and whether the whole record stays as it was
 pub record Turn : Type 0 where
   pub call : Call
   pub answer : ℕ
   pub seen : List ℕ
   pub numbers : List ℕ
+  pub stays : Bool
 
 abbrev pub turn : Call → ℕ → List ℕ → List ℕ → Turn
-turn c answer seen numbers = record { call = c; answer = answer; seen = seen; numbers = numbers }
+turn c answer seen numbers = record { call = c; answer = answer; seen = seen; numbers = numbers; stays = false }
 
-unfoldable pub rightTurn : Outcome → Turn → Bool
-rightTurn o t = eqb (o .answer) (t .answer) && (sameList (look (o .replica)) (t .seen) && sameList (flat (o .actions)) (t .numbers))
+-- "changes nothing", "unchanged"; and a refusal
+abbrev pub still : Call → ℕ → List ℕ → Turn
+still c answer seen = record { call = c; answer = answer; seen = seen; numbers = []; stays = true }
+
+-- every number of a record that is in use
+abbrev pub flagOf : Bool → ℕ
+flagOf true = 1
+flagOf false = 0
+
+abbrev pub batchNumbers : Batch → List ℕ
+batchNumbers b = b .id ∷ b .count ∷ b .keys
+
+abbrev pub slotNumbers : Slot → List ℕ
+slotNumbers x =
+    (x .ballot ∷ x .status ∷ x .vote .ballot ∷ flagOf (x .external) ∷ x .«wal_offset» ∷ batchNumbers (x .batch))
+    ++ (batchNumbers (x .vote .batch)
+    ++ (flagOf (x .leader .present) ∷ x .leader .trigger ∷ x .leader .endprep ∷ x .leader .«prepare_acks» ∷ x .leader .«prepare_max_bal»
+    ∷ x .leader .«accept_acks» ∷ flagOf (x .replica .present) ∷ x .replica .source ∷ x .replica .trigger ∷ x .replica .endprep ∷ []))
+
+abbrev pub scalarNumbers : Scalars → List ℕ
+scalarNumbers sc =
+    sc .id ∷ sc .group ∷ sc .start ∷ sc .options ∷ sc .leader ∷ sc .«bal_prep_sent» ∷ sc .«bal_prepared» ∷ sc .«bal_max_seen» ∷ sc .«accept_bar»
+    ∷ sc .«commit_bar» ∷ sc .«exec_bar» ∷ sc .«wal_offset» ∷ sc .«peer_accept_max» ∷ []
+
+abbrev pub whole : Replica → List ℕ
+whole r =
+    scalarNumbers (r .sc)
+    ++ ((flagOf (r .bars .own) ∷ r .window .len ∷ r .keys .count ∷ r .reads .count ∷ r .bars .bars)
+    ++ (gather (λ i. slotNumbers (slotAt (r .window) i)) 0 (r .window .len)
+    ++ gather (λ i. getD (r .keys .keys) i 0 ∷ getD (r .keys .slots) i 0 ∷ []) 0 (r .keys .count)))
+
+unfoldable pub rightTurn : Replica → Outcome → Turn → Bool
+rightTurn r o t =
+    eqb (o .answer) (t .answer) && (sameList (look (o .replica)) (t .seen) && (sameList (flat (o .actions)) (t .numbers)
+    && (not (t .stays) || sameList (whole (o .replica)) (whole r))))
 
 -- each turn of a run, one after the other
 unfoldable pub rightRun : Replica → List Turn → Bool
 rightRun r [] = true
-rightRun r (t ∷ ts) = rightTurn (step r 3456 (t .call)) t && rightRun (step r 3456 (t .call) .replica) ts
+rightRun r (t ∷ ts) = rightTurn r (step r 3456 (t .call)) t && rightRun (step r 3456 (t .call) .replica) ts
 
 -- a run from a new replica
 pub record Run : Type 0 where
@@ -86,6 +122,9 @@ promises slot ballot = numbers 1 0 slot 0 0 ballot
 abbrev pub prepare : ℕ → ℕ → ℕ → ℕ → ℕ → ℕ → ℕ → List ℕ → Turn
 prepare peer trigger ballot answer len seen leader acts = turn (callPrepare peer trigger ballot) answer (plain len seen leader 0) acts
 
+abbrev pub ignored : ℕ → ℕ → ℕ → ℕ → ℕ → ℕ → ℕ → Turn
+ignored peer trigger ballot answer len seen leader = still (callPrepare peer trigger ballot) answer (plain len seen leader 0)
+
 abbrev pub reply : ℕ → Reply
 reply ballot = record { slot = 0; trigger = 0; endprep = 0; ballot = ballot; voted = false; vote = noVote; bar = 0 }
 
@@ -101,18 +140,18 @@ marked =
     (prepare 0 2 257 0 3 257 0 (promises 2 257)
     ∷ prepare 0 2 257 0 3 257 0 (promises 2 257)
     ∷ prepare 1 2 258 0 3 258 1 (promises 2 258)
-    ∷ prepare 0 2 257 0 3 258 1 []
-    ∷ prepare 0 64 257 0 3 258 1 []
+    ∷ ignored 0 2 257 0 3 258 1
+    ∷ ignored 0 64 257 0 3 258 1
     -- "Timeout from 1 while 0 is believed leader: 0, unchanged": here from 0 while 1 is believed leader
-    ∷ turn (callTimeout 0) 0 (plain 3 258 1 0) []
+    ∷ still (callTimeout 0) 0 (plain 3 258 1 0)
     ∷ [])
     -- "Trigger 63 acts; 64 is 5"
     ∷ run 2 3 (prepare 0 63 257 0 64 257 0 (promises 63 257) ∷ [])
-    ∷ run 2 3 (prepare 0 64 257 5 0 0 255 [] ∷ [])
+    ∷ run 2 3 (ignored 0 64 257 5 0 0 255 ∷ [])
     -- "Ballot 258 from 0: 3. Sender 2 or 3: 2."
-    ∷ run 2 3 (prepare 0 2 258 3 0 0 255 [] ∷ prepare 2 2 259 2 0 0 255 [] ∷ prepare 3 2 260 2 0 0 255 [] ∷ [])
+    ∷ run 2 3 (ignored 0 2 258 3 0 0 255 ∷ ignored 2 2 259 2 0 0 255 ∷ ignored 3 2 260 2 0 0 255 ∷ [])
     -- "Timeout from 1 while 0 is believed leader: 0, unchanged."
-    ∷ run 2 3 (prepare 0 2 257 0 3 257 0 (promises 2 257) ∷ turn (callTimeout 1) 0 (plain 3 257 0 0) [] ∷ [])
+    ∷ run 2 3 (prepare 0 2 257 0 3 257 0 (promises 2 257) ∷ still (callTimeout 1) 0 (plain 3 257 0 0) ∷ [])
     -- "Group 5: the third different AcceptReply commits; a repeated second does not." Member 0 leads after its own reply and those of 1 and 2
     ∷ run 0 5
     (turn (callTimeout 0) 0 (plain 1 257 0 1) (numbers 10 0 0 0 0 0 ++ numbers 9 255 0 0 0 0 ++ promises 0 257 ++ numbers 4 255 0 0 0 257)
@@ -121,7 +160,7 @@ marked =
     ∷ turn (callLogged (record { entry = PrepareBal; slot = 0; size = 40 })) 0 (plain 1 257 0 2) (numbers 2 0 0 0 0 257 ++ numbers 6 255 0 0 0 257)
     ∷ turn (callAcceptReply 1 0 257) 0 (plain 1 257 0 2) []
     ∷ turn (callAcceptReply 2 0 257) 0 (plain 1 257 0 2) []
-    ∷ turn (callAcceptReply 2 0 257) 0 (plain 1 257 0 2) []
+    ∷ still (callAcceptReply 2 0 257) 0 (plain 1 257 0 2)
     ∷ turn (callAcceptReply 3 0 257) 0 (plain 1 257 0 3) (numbers 3 0 0 0 0 0)
     ∷ [])
     -- "Slot and value into an empty tally holds the slot alone."
