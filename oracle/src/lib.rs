@@ -14,6 +14,7 @@ pub mod digest;
 mod foresee;
 pub mod generate;
 pub mod guard;
+pub mod merges;
 pub mod play;
 pub mod record;
 pub mod refuse;

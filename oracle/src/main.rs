@@ -8,6 +8,7 @@ use oracle::agree::{Agreement, agree};
 use oracle::baseline::{self, BUFFER};
 use oracle::digest::Digest;
 use oracle::generate::{self, Profile};
+use oracle::merges::{merges_of, tell_merges};
 use oracle::play::play;
 use oracle::stats::Stats;
 use oracle::tell::Text;
@@ -20,6 +21,9 @@ const USAGE: &str = "usage:
   oracle agree TRACE
                    another program's told text of TRACE on standard input; the first record
                    that differs, or how many agree
+  oracle merges-of a trace of the merges of each read that the trace opened, one read after another
+  oracle merges    a trace of that form; for each read opened and each reply, the answer and what
+                   the Rust knows of the read after it
   oracle stats [TRACE..]
                    what the trace reaches, or what the named traces reach together
   oracle gen SEED COUNT --profile group|fuzz|reads|mix|writes
@@ -33,6 +37,8 @@ enum Command {
     Digest,
     Baseline,
     Agree { trace: String },
+    MergesOf,
+    Merges,
     Stats { traces: Vec<String> },
     Example { trace: Vec<u8> },
     Generate { seed: u64, count: u64, profile: Profile },
@@ -69,6 +75,8 @@ fn parse(words: &[String]) -> Result<Command, String> {
         ["tell"] => Ok(Command::Tell),
         ["digest"] => Ok(Command::Digest),
         ["baseline"] => Ok(Command::Baseline),
+        ["merges-of"] => Ok(Command::MergesOf),
+        ["merges"] => Ok(Command::Merges),
         ["agree", trace] => Ok(Command::Agree { trace: trace.to_string() }),
         ["agree", ..] => Err("agree takes TRACE".to_string()),
         ["example", name] => Ok(Command::Example {
@@ -86,7 +94,7 @@ fn parse(words: &[String]) -> Result<Command, String> {
                 .ok_or_else(|| format!("no profile is called '{profile}'"))?,
         }),
         ["gen", ..] => Err("gen takes SEED COUNT --profile NAME".to_string()),
-        [name @ ("replay" | "tell" | "digest" | "baseline"), ..] => {
+        [name @ ("replay" | "tell" | "digest" | "baseline" | "merges" | "merges-of"), ..] => {
             Err(format!("{name} takes no arguments"))
         }
         [name, ..] => Err(format!("no command is called '{name}'")),
@@ -105,6 +113,8 @@ fn run(command: Command) -> io::Result<ExitCode> {
         Command::Baseline => baseline::replay(input.into_inner(), output.get_mut())?,
         Command::Replay => print_each(input, &mut output, false)?,
         Command::Tell => print_each(input, &mut output, true)?,
+        Command::MergesOf => merges_of(input, &mut output)?,
+        Command::Merges => tell_merges(input, &mut output)?,
         Command::Digest => {
             let mut digest = Digest::default();
             play(input, |played| {

@@ -186,6 +186,16 @@ impl Text {
         self.end_line();
     }
 
+    /// An answer, the number of keys, and what is known of each.
+    pub(crate) fn tally_line(&mut self, answer: u8, read: &QuorumReadBookkeeping) {
+        self.digits(u64::from(answer));
+        self.numbers(&[read.max_replies.len() as u64]);
+        for best in &read.max_replies {
+            self.best(best);
+        }
+        self.end_line();
+    }
+
     fn best(&mut self, best: &Knowledge) {
         match best {
             None => self.numbers(&[0, 0, 0]),

@@ -152,8 +152,10 @@ fn a_trace_that_is_not_there_is_an_error() {
 
 #[test]
 fn bad_usage_is_an_error() {
-    let bad: [&[&str]; 15] = [
+    let bad: [&[&str]; 17] = [
         &[],
+        &["merges", "trace"],
+        &["merges-of", "trace"],
         &["baseline", "trace"],
         &["agree"],
         &["agree", "one.trace", "two.trace"],

@@ -3,6 +3,7 @@ ghost use Prim.Native.Nat.{_≤_};
 ghost use mathlib.Core.Path.{_≡_};
 ghost use lib.ListN.{length, drop};
 ghost use Rattle.feed.specs.Feed.{Fronted};
+use libc::STDERR_FILENO;
 use libc::STDIN_FILENO;
 use libc::STDOUT_FILENO;
 
@@ -26,7 +27,7 @@ pub fn read_more(bytes: &mut [u8], have: usize) -> Input
     }
     let got = libc::read(STDIN_FILENO, &mut bytes[have..]);
     if got < 0 {
-        os::fail(b"standard input");
+        io::write_all(STDERR_FILENO, b"standard input cannot be read\n");
         return Input {
             have: have,
             ended: true,
@@ -64,7 +65,7 @@ pub fn write_text(text: &[u8], n: usize) -> bool {
     }
     let done = io::write_all(STDOUT_FILENO, &text[0..n]);
     if !done {
-        os::fail(b"standard output");
+        io::write_all(STDERR_FILENO, b"standard output cannot be written\n");
     }
     done
 }

@@ -2,3 +2,4 @@ pub mod Play
 pub mod Lines
 pub mod Laws
 pub mod LineLaws
+pub mod ShownLaws

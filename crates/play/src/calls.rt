@@ -7,12 +7,12 @@ use crate::fields::batch_of;
 use crate::fields::done_of;
 use crate::fields::reply_of;
 use crate::fields::tally_of;
+use reader::read_at;
 use replica::Handled;
 use replica::Replica;
 use trace::Record;
 use trace::is_malformed;
 use trace::keys_of;
-use trace::record_at;
 use trace::sum_is_right;
 
 // What an answer hands back that keeps the replica.
@@ -55,7 +55,8 @@ pub fn play(r: Replica, room: &mut [u64], rec: Record, right: bool) -> Handled
 pub fn play_at(r: Replica, room: &mut [u64], bytes: &[u8], at: usize) -> Handled
     ensures { λ h. ⌜ Told (playedAt r (length (now (room .entry))) (now (bytes .entry)) at) h (now (room .entry)) (now (room .exit)) ⌝ }
 {
-    let rec = record_at(bytes, at);
+    let step = read_at(bytes, at);
+    let rec = step.read;
     let right = sum_is_right(bytes, at);
     play(r, room, rec, right)
 }

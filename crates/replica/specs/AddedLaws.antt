@@ -25,20 +25,6 @@ use Rattle.replica.specs.Messages.{clean}
 use Rattle.replica.specs.Added.{offerStep, movedExec, executedStep}
 use Rattle.replica.specs.AddedFits.{ExecFits}
 
--- a batch is made of its numbers, or is none
-module _ (b : Batch) (m : Made) (e : m ≡ makeBatch (b .id) (b .count) (b .keys)) where
-  pub batch-none : (m .answer ≡ 0 → ⊥) → isBatch (b .id) (b .count) ≡ false
-  unfolding makeBatch
-  batch-none h =
-      pick-cases (λ (x : Made). m ≡ x → isBatch (b .id) (b .count) ≡ false) (isBatch (b .id) (b .count))
-      (λ t q. absurd (h (ap (λ (x : Made). x .answer) q))) (λ t q. t) e
-
-  pub batch-some : m .answer ≡ 0 → isBatch (b .id) (b .count) ≡ true
-  unfolding makeBatch
-  batch-some h =
-      pick-cases (λ (x : Made). m ≡ x → isBatch (b .id) (b .count) ≡ true) (isBatch (b .id) (b .count)) (λ t q. t)
-      (λ t q. let z : _≡_ {A = ℕ} 10 0 = sym (ap (λ (x : Made). x .answer) q) ∙ h in absurd (omega arith)) e
-
 -- ── offer ──
 module _ (r : Replica) (room : ℕ) (b : Batch) where
   abbrev offer-tests : Outcome

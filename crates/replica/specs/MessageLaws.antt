@@ -125,16 +125,19 @@ module _ (r : Replica) (w : Window) (from peer ballot top : ℕ) (e : top ≡ pr
 
 -- ── Accept ──
 
--- 10, by the batch that the code makes
-made-none : (id count : ℕ) (keys : List ℕ) → (makeBatch id count keys .answer ≡ 0 → ⊥) → isBatch id count ≡ false
-unfolding makeBatch
-made-none id count keys =
-    pick-cases (λ (m : Made). (m .answer ≡ 0 → ⊥) → isBatch id count ≡ false) (isBatch id count) (λ t h. absurd (h refl)) (λ t h. t)
+-- 10: a batch is made of its numbers, or is none
+module _ (b : Batch) (m : Made) (e : m ≡ makeBatch (b .id) (b .count) (b .keys)) where
+  pub batch-none : (m .answer ≡ 0 → ⊥) → isBatch (b .id) (b .count) ≡ false
+  unfolding makeBatch
+  batch-none h =
+      pick-cases (λ (x : Made). m ≡ x → isBatch (b .id) (b .count) ≡ false) (isBatch (b .id) (b .count))
+      (λ t q. absurd (h (ap (λ (x : Made). x .answer) q))) (λ t q. t) e
 
-made-some : (id count : ℕ) (keys : List ℕ) → makeBatch id count keys .answer ≡ 0 → isBatch id count ≡ true
-unfolding makeBatch
-made-some id count keys =
-    pick-cases (λ (m : Made). m .answer ≡ 0 → isBatch id count ≡ true) (isBatch id count) (λ t h. t) (λ t h. absurd (omega arith))
+  pub batch-some : m .answer ≡ 0 → isBatch (b .id) (b .count) ≡ true
+  unfolding makeBatch
+  batch-some h =
+      pick-cases (λ (x : Made). m ≡ x → isBatch (b .id) (b .count) ≡ true) (isBatch (b .id) (b .count)) (λ t q. t)
+      (λ t q. let z : _≡_ {A = ℕ} 10 0 = sym (ap (λ (x : Made). x .answer) q) ∙ h in absurd (omega arith)) e
 
 -- where the batch is one
 abbrev acceptFrom : Replica → ℕ → ℕ → ℕ → Batch → Outcome
@@ -164,14 +167,14 @@ module _ (r : Replica) (n peer slot ballot : ℕ) (b : Batch) (first : ℕ) (e :
     accept-unmade h =
         accept-open
         ∙ ap (λ (t : Bool). pick (not t) (kept 10 r) (acceptFrom r peer slot ballot (clean b)))
-        (made-none (b .id) (b .count) (b .keys) (λ q. h (ap (λ (x : Made). x .answer) k ∙ q)))
+        (batch-none b m k h)
 
     module _ (y : m .answer ≡ 0) where
       accept-made : acceptStep r n peer slot ballot b ≡ acceptFrom r peer slot ballot (m .batch)
       accept-made =
           accept-open
           ∙ ap (λ (t : Bool). pick (not t) (kept 10 r) (acceptFrom r peer slot ballot (clean b)))
-          (made-some (b .id) (b .count) (b .keys) (sym (ap (λ (x : Made). x .answer) k) ∙ y))
+          (batch-some b m k y)
           ∙ ap (λ (x : Made). acceptFrom r peer slot ballot (x .batch)) (sym k)
 
       pub accept-below : slot < r .sc .start → acceptStep r n peer slot ballot b ≡ kept 0 r

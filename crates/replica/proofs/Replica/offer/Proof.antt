@@ -9,7 +9,8 @@ use Rattle.batch.specs.declared.Made.{Made}
 use Rattle.batch.specs.Batches.{isBatch}
 use Rattle.replica.specs.AdmitLaws.{Ready, ready-facts}
 use Rattle.replica.specs.ActingLaws.{refuse, told}
-use Rattle.replica.specs.AddedLaws.{batch-none, batch-some, offer-unready, offer-none, offer-denied, offer-full, offer-settles}
+use Rattle.replica.specs.MessageLaws.{batch-none, batch-some}
+use Rattle.replica.specs.AddedLaws.{offer-unready, offer-none, offer-denied, offer-full, offer-settles}
 use borrow.Author.Needs.{needs}
 use Rattle.replica.proofs.Replica.offer.Statement.{statement}
 use Rattle.replica.proofs.Replica.offer.Tie as tie
