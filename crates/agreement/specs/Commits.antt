@@ -20,7 +20,8 @@ use Rattle.replica.specs.declared.Window.{Window}
 use Rattle.replica.specs.declared.Replica.{Replica}
 use Rattle.replica.specs.Record.{Outcome, logEnd}
 use Rattle.replica.specs.Step.{Call, step}
-use Rattle.agreement.specs.BySlot.{placed, numbered, placed-here}
+use Rattle.laws.specs.ByPlace.{atPlace, at-present}
+use Rattle.agreement.specs.BySlot.{numbered}
 use Rattle.agreement.specs.Theorem.{Group, Mark, World, slotOf, rises, markAt, marksOf, put, begin, May, Reach, begins, turn, acceptEntry, commitEntry}
 use Rattle.agreement.specs.Group.{framed, inv, each, rises-commit, commit-rises, marked-earlier, accept-sent}
 
@@ -33,9 +34,9 @@ numbered-here : (from : ℕ) (w : Window) (s : ℕ) → 0 < numbered from w s .s
 unfolding numbered
 numbered-here from w s h = go (decide (ltb s from)) h
   where
-    go : (ltb s from ≡ true) ⊎ (ltb s from ≡ false) → 0 < pick (ltb s from) nullSlot (placed w (s - from)) .status → (from ≤ s) × (s < from + w .len)
+    go : (ltb s from ≡ true) ⊎ (ltb s from ≡ false) → 0 < pick (ltb s from) nullSlot (atPlace w (s - from)) .status → (from ≤ s) × (s < from + w .len)
     go (inl e) h = absurd (omega (arith, rw e at h))
-    go (inr e) h = let l : s - from < w .len = placed-here w (s - from) (rw e at h) in (ltb-false s from e, omega (arith, tests))
+    go (inr e) h = let l : s - from < w .len = at-present w (s - from) (rw e at h) in (ltb-false s from e, omega (arith, tests))
 
 abbrev pub markOf : ℕ → Replica → ℕ → Mark
 markOf m r s = record { who = m; slot = s; ballot = slotOf r s .ballot; batch = slotOf r s .batch }

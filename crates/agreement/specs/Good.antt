@@ -18,7 +18,9 @@ use Rattle.replica.specs.declared.Window.{Window}
 use Rattle.replica.specs.declared.Replica.{Replica}
 use Rattle.replica.specs.Record.{Outcome, kept as keptAs, grown}
 use Rattle.replica.specs.Step.{Call}
-use Rattle.agreement.specs.BySlot.{placed, numbered, numbered-at, by-place, placed-grown, wide-grown, len-grown}
+use Rattle.laws.specs.Windows.{grown-long, grown-most}
+use Rattle.laws.specs.ByPlace.{atPlace, grown-at}
+use Rattle.agreement.specs.BySlot.{numbered, numbered-at, by-place}
 use Rattle.agreement.specs.Theorem.{commitEntry}
 use Rattle.agreement.specs.Frame.{Cell, cell, View, view, Owns, Clean, ActOk, SlotStep, low, kept, Frame}
 
@@ -36,7 +38,7 @@ pub record Good (sc : Scalars) (w : Window) : Type 0 where
   pub own : leads sc ≡ true → Owns (sc .id) (sc .«bal_max_seen»)
   pub wide : length (w .slots) ≡ 64
   pub short : w .len ≤ 64
-  pub each : (i : ℕ) → GoodSlot sc (placed w i)
+  pub each : (i : ℕ) → GoodSlot sc (atPlace w i)
 
 -- a call keeps to the frame and leaves a good replica
 pub record StepOk (v : View) (c : Call) (n : ℕ) (sc′ : Scalars) (w′ : Window) (acts : List Act) : Type 0 where
@@ -71,9 +73,6 @@ same-self sc = record { id = refl; start = refl; leader = refl; sent = refl; see
 
 pub same-leads : {sc sc′ : Scalars} → Same sc sc′ → leads sc′ ≡ true → leads sc ≡ true
 same-leads {sc} {sc′} q z = eq-eqb (sc .leader) (sc .id) (sym (q .leader) ∙ eqb-true (sc′ .leader) (sc′ .id) z ∙ q .id)
-
-pub leads-same : {sc sc′ : Scalars} → Same sc sc′ → leads sc ≡ true → leads sc′ ≡ true
-leads-same {sc} {sc′} q z = eq-eqb (sc′ .leader) (sc′ .id) (q .leader ∙ eqb-true (sc .leader) (sc .id) z ∙ sym (q .id))
 
 pub heads-same : {sc sc′ : Scalars} {w : Window} → Good sc w → Same sc sc′ → Heads sc sc′
 heads-same {sc} {sc′} g q =
@@ -143,7 +142,7 @@ turned-self x k = turned-like x x k (like-self x)
 -- ── the whole ──
 module _ (sc : Scalars) (w : Window) (c : Call) (n : ℕ) (sc′ : Scalars) (w′ : Window) (acts : List Act) where
   abbrev pub Each : Type 0
-  Each = (i : ℕ) → Turned (view sc w) sc′ (view sc′ w′) acts (sc .start + i) (placed w i) (placed w′ i)
+  Each = (i : ℕ) → Turned (view sc w) sc′ (view sc′ w′) acts (sc .start + i) (atPlace w i) (atPlace w′ i)
 
   pub assemble : Good sc w → Heads sc sc′ → length (w′ .slots) ≡ 64 → w′ .len ≤ 64 → Each → All (ActOk (view sc w) c (view sc′ w′) acts) acts
       → ((n ≡ 0 → ⊥) → acts ≡ []) → StepOk (view sc w) c n sc′ w′ acts
@@ -168,11 +167,11 @@ module _ (sc : Scalars) (w : Window) (c : Call) (n : ℕ) (sc′ : Scalars) (w�
       }
 
 -- what holds of the slot at a place holds of it by its number
-pub at-number : (P : Cell → Type 0) (start : ℕ) (w : Window) (s i : ℕ) → s ≡ start + i → P (cell (placed w i)) → P (cell (numbered start w s))
+pub at-number : (P : Cell → Type 0) (start : ℕ) (w : Window) (s i : ℕ) → s ≡ start + i → P (cell (atPlace w i)) → P (cell (numbered start w s))
 at-number P start w s i e h = subst (λ (k : ℕ). P (cell (numbered start w k))) (sym e) (subst (λ (x : Slot). P (cell x)) (sym (numbered-at start w i)) h)
 
 -- ── views that are one ──
-pub view-like : (sc sc′ : Scalars) (w w′ : Window) → Same sc sc′ → ((i : ℕ) → Like (placed w i) (placed w′ i)) → view sc′ w′ ≡ view sc w
+pub view-like : (sc sc′ : Scalars) (w w′ : Window) → Same sc sc′ → ((i : ℕ) → Like (atPlace w i) (atPlace w′ i)) → view sc′ w′ ≡ view sc w
 view-like sc sc′ w w′ q l = λ k. record { me = q .id k; leading = leading k; seen = q .seen k; slot = slots k }
   where
     leading : leads sc′ ≡ leads sc
@@ -187,15 +186,12 @@ view-like sc sc′ w w′ q l = λ k. record { me = q .id k; leading = leading k
 
 -- ── the log grows by null slots ──
 pub record Grew (w w′ : Window) : Type 0 where
-  pub each : (i : ℕ) → placed w′ i ≡ placed w i
+  pub each : (i : ℕ) → atPlace w′ i ≡ atPlace w i
   pub wide : length (w′ .slots) ≡ 64
   pub short : w′ .len ≤ 64
 
 pub grew : {sc : Scalars} (w : Window) → Good sc w → (n : ℕ) → n ≤ 64 → Grew w (grown w n)
-grew w g n h = record { each = λ i. placed-grown w n i (omega (arith, g .wide)); wide = wide-grown w n ∙ g .wide; short = len-grown w n .2 64 h (g .short) }
-
-pub grew-self : {sc : Scalars} (w : Window) → Good sc w → Grew w w
-grew-self w g = record { each = λ i. refl; wide = g .wide; short = g .short }
+grew w g n h = record { each = λ i. grown-at w n i (omega (arith, g .wide)); wide = grown-long w n ∙ g .wide; short = grown-most w n 64 (g .short) h }
 
 pub good-grew : {sc : Scalars} {w w′ : Window} → Good sc w → Grew w w′ → Good sc w′
 good-grew {sc} {w} {w′} g q =
@@ -205,10 +201,10 @@ pub grew-ok : (sc : Scalars) (w w′ : Window) (c : Call) (n : ℕ) (sc″ : Sca
     → StepOk (view sc w) c n sc″ w″ acts
 grew-ok sc w w′ c n sc″ w″ acts q k =
     subst (λ (v : View). StepOk v c n sc″ w″ acts)
-    (view-like sc sc w w′ (same-self sc) (λ i. subst (λ (x : Slot). Like (placed w i) x) (sym (q .each i)) (like-self (placed w i)))) k
+    (view-like sc sc w w′ (same-self sc) (λ i. subst (λ (x : Slot). Like (atPlace w i) x) (sym (q .each i)) (like-self (atPlace w i)))) k
 
 -- ── refused or ignored ──
 pub kept-ok : (r : Replica) (c : Call) → GoodReplica r → (n : ℕ) → Ok r c (keptAs n r)
 kept-ok r c g n =
     assemble (r .sc) (r .window) c n (r .sc) (r .window) [] g (heads-same g (same-self (r .sc))) (g .wide) (g .short)
-    (λ i. turned-self (placed (r .window) i) (g .each i)) tt (λ _. refl)
+    (λ i. turned-self (atPlace (r .window) i) (g .each i)) tt (λ _. refl)

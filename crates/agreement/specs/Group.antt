@@ -23,10 +23,11 @@ use Rattle.replica.specs.declared.Made.{Made}
 use Rattle.replica.specs.Record.{Outcome, newReplica, fresh, noSlots, mayBe, logEnd}
 use Rattle.replica.specs.Messages.{clean}
 use Rattle.replica.specs.Step.{Call, callPrepare, callPrepareReply, callAccept, callAcceptReply, callCommitNotice, callTimeout, callLogged, callOffer, callExecuted, callOpenRead, callReadReply, step, received}
-use Rattle.agreement.specs.BySlot.{by-place, placed-past}
+use Rattle.laws.specs.ByPlace.{at-past}
+use Rattle.agreement.specs.BySlot.{by-place}
 use Rattle.agreement.specs.Theorem.{Group, Mark, World, slotOf, rises, markAt, marksOf, upd, put, begin, May, timer, offer, logged, executed, opened, replied, message, refused, Reach, begins, turn, ballots, NeverFalls, acceptEntry, commitEntry, Agreement, Theorem}
 use Rattle.agreement.specs.Frame.{View, view, Owns, Why, led, told, Wrote, Marked, ActOk, Frame}
-use Rattle.agreement.specs.Good.{GoodSlot, Ok, GoodReplica}
+use Rattle.agreement.specs.Good.{GoodSlot, GoodReplica}
 use Rattle.agreement.specs.Calls.{step-ok}
 use Rattle.agreement.specs.Local.{acceptSent, Local, local-start, local-step, commit-earlier, subst₂}
 
@@ -220,7 +221,7 @@ fresh-good m size start options h =
       own = λ z. absurd (omega (arith, tests));
       wide = refl;
       short = omega arith;
-      each = λ i. subst (GoodSlot (fresh m size start options .sc)) (sym (placed-past noSlots i (omega arith)))
+      each = λ i. subst (GoodSlot (fresh m size start options .sc)) (sym (at-past noSlots i (omega arith)))
           (record { under = omega arith; busy = λ _ a _. absurd (omega arith); tidy = refl; tidyVote = refl });
     }
 
@@ -228,7 +229,7 @@ fresh-local : (m size start options : ℕ) → Local m (viewOf (fresh m size sta
 fresh-local m size start options =
     local-start m (viewOf (fresh m size start options)) refl
     (λ s. by-place (λ (s : ℕ) (x y : Slot). x .status ≡ 0) start noSlots noSlots (λ s. refl)
-    (λ i. ap (λ (x : Slot). x .status) (placed-past noSlots i (omega arith))) s)
+    (λ i. ap (λ (x : Slot). x .status) (at-past noSlots i (omega arith))) s)
 
 made-start : (m size start options : ℕ) → newReplica m size start options .answer ≡ 0
     → GoodReplica (newReplica m size start options .replica) × Local m (viewOf (newReplica m size start options .replica)) []

@@ -1,46 +1,46 @@
 -- A timeout and a CommitNotice keep to the frame.
 use mathlib.Core.Path.{_≡_, refl, sym, _∙_, subst}
-use mathlib.Core.Bool.{true, false, not, _||_}
+use mathlib.Core.Bool.{true, false}
 use mathlib.Core.List.{List, [], _∷_, _++_, List·Memᴰ·head}
 use mathlib.Core.Logic.{_⊎_, inl, inr}
-use Prim.Native.Nat.{ℕ, _+_, _-_, _/_, _≤_, _<_}
+use Prim.Native.Nat.{ℕ, _+_, _-_, _≤_, _<_}
 use native.Mathlib.Omega.{arith}
-use lib.Dec.{ltb, leb, eqb}
+use lib.Dec.{ltb, leb}
 use borrow.Author.Tests.{ltb-true, ltb-false, leb-true}
 use Rattle.base.specs.Pick.{pick-both, pick-cases, decide, tests, and-right}
-use Rattle.base.specs.Over.{length-over}
 use Rattle.base.specs.Gather.{gather, all-gather, in-gather}
 use Rattle.base.specs.Scan.{scan-high, scan-passed}
 use Rattle.base.specs.Among.{_∈_, All, all-append}
-use Rattle.members.specs.declared.NextBallot.{NextBallot}
-use Rattle.members.specs.Ballots.{owns, ballotAbove}
+use Rattle.members.specs.Ballots.{ballotAbove}
+use Rattle.members.specs.Laws.{next-given}
 use Rattle.actions.specs.declared.Action.the-variants.{Prepare, Heartbeat, StatusUp}
 use Rattle.actions.specs.Actions.{Act, bare}
 use Rattle.slots.specs.declared.Slot.{Slot}
-use Rattle.slots.specs.Slots.{noSlot, accepting, committed, executed, newBook, redoneSlot, markedSlot, withExternal}
+use Rattle.slots.specs.Slots.{accepting, committed, executed, newBook, redoneSlot, markedSlot, withExternal}
 use Rattle.decide.specs.declared.Scalars.{Scalars}
-use Rattle.decide.specs.Scalars.{isMember, isPeer, steppedUp}
+use Rattle.decide.specs.Scalars.{steppedUp}
 use Rattle.replica.specs.declared.Window.{Window}
 use Rattle.replica.specs.declared.Replica.{Replica}
-use Rattle.replica.specs.Record.{place, number, slotAt, grown, sweep}
-use Rattle.replica.specs.Fit.{ready}
-use Rattle.replica.specs.Leadership.{ignoresTimeout, firstOpen, lastOpen, redoActs, leadOn, stepUp, timeoutStep, mayMark, markActs, markOn, markStop, commitNoticeStep}
+use Rattle.replica.specs.Record.{place, number, slotAt, sweep}
+use Rattle.replica.specs.Leadership.{firstOpen, redoActs, timeoutStep, mayMark, markActs, markStop, commitNoticeStep}
 use Rattle.replica.specs.Step.{Call}
-use Rattle.agreement.specs.BySlot.{placed, placed-in, placed-here, len-grown, sweep-cases, sweep-at}
+use Rattle.laws.specs.Windows.{grown-has, sweep-long}
+use Rattle.laws.specs.ByPlace.{atPlace, at-here, at-present, sweep-cases, sweep-at}
+use Rattle.laws.specs.WaysLeadership.{leadWindow, leadTrigger, leadEnd, led, timeoutStep-ways, markWindow, markFrom, commitNoticeStep-ways}
 use Rattle.agreement.specs.Theorem.{commitEntry}
 use Rattle.agreement.specs.Frame.{Cell, cell, view, Marked, ActOk, kept, cleared}
-use Rattle.agreement.specs.Good.{GoodSlot, Good, Ok, GoodReplica, Heads, same-self, heads-same, Turned, turned-like, turned-self, Each, assemble, at-number, Grew, grew, good-grew, grew-ok, kept-ok}
+use Rattle.agreement.specs.Good.{GoodSlot, Good, StepOk, Ok, GoodReplica, Heads, same-self, heads-same, Turned, turned-like, turned-self, Each, assemble, at-number, Grew, grew, good-grew, grew-ok, kept-ok}
 
 -- ── step-up ──
 -- below the first open slot all are committed
-pub open-placed : (w : Window) (i : ℕ) → i < firstOpen w → 3 ≤ placed w i .status
+pub open-placed : (w : Window) (i : ℕ) → i < firstOpen w → 3 ≤ atPlace w i .status
 unfolding firstOpen
 open-placed w i h =
-    subst (λ (x : Slot). 3 ≤ x .status) (sym (placed-in w i (omega (arith, scan-high (λ i. leb committed (slotAt w i .status)) 0 (w .len) (omega arith)))))
+    subst (λ (x : Slot). 3 ≤ x .status) (sym (at-here w i (omega (arith, scan-high (λ i. leb committed (slotAt w i .status)) 0 (w .len) (omega arith)))))
     (leb-true 3 (slotAt w i .status) (scan-passed (λ i. leb committed (slotAt w i .status)) 0 (w .len) i (omega arith) h))
 
 module _ (r : Replica) (c : Call) (w : Window) (trigger endprep : ℕ) (g : GoodReplica r) (q : Grew (r .window) w)
-    (done : (i : ℕ) → i < place (r .sc) (r .sc .«exec_bar») → 3 ≤ placed w i .status) where
+    (done : (i : ℕ) → i < place (r .sc) (r .sc .«exec_bar») → 3 ≤ atPlace w i .status) where
   abbrev pub raised : ℕ
   raised = ballotAbove (r .sc .«bal_max_seen») (r .sc .id)
 
@@ -90,7 +90,7 @@ module _ (r : Replica) (c : Call) (w : Window) (trigger endprep : ℕ) (g : Good
       }))
 
   -- a slot that is not in the range is committed or not there
-  rest-good : (i : ℕ) → (from ≤ i → i < w .len → i < w .len → ⊥) → GoodSlot upSc (placed w i)
+  rest-good : (i : ℕ) → (from ≤ i → i < w .len → i < w .len → ⊥) → GoodSlot upSc (atPlace w i)
   rest-good i z =
       record {
         under = omega (arith, gw .each i .under, above);
@@ -99,20 +99,19 @@ module _ (r : Replica) (c : Call) (w : Window) (trigger endprep : ℕ) (g : Good
         tidyVote = gw .each i .tidyVote;
       }
     where
-      go : (ltb i from ≡ true) ⊎ (ltb i from ≡ false) → 1 ≤ placed w i .status → placed w i .status < 3 → ⊥
+      go : (ltb i from ≡ true) ⊎ (ltb i from ≡ false) → 1 ≤ atPlace w i .status → atPlace w i .status < 3 → ⊥
       go (inl e) a b = omega (arith, done i (ltb-true i from e))
-      go (inr e) a b = let l : i < w .len = placed-here w i a in z (ltb-false i from e) l l
+      go (inr e) a b = let l : i < w .len = at-present w i a in z (ltb-false i from e) l l
 
   up-each : Each (r .sc) w c 0 upSc upW upActs
   up-each i =
-      sweep-cases (Up i (placed w i)) (λ i s. redone s) from (w .len) w i (omega (arith, q .wide, q .short))
-      (λ _ _ _. redone-turned i (placed w i) (gw .each i)) (λ z. turned-self (placed w i) (rest-good i z))
+      sweep-cases (λ i s. redone s) from (w .len) w (Up i (atPlace w i)) i (omega (arith, q .wide, q .short))
+      (λ _ _ _. redone-turned i (atPlace w i) (gw .each i)) (λ z. turned-self (atPlace w i) (rest-good i z))
 
-  pub leadOn-ok : Ok r c (leadOn r w trigger endprep raised)
-  unfolding leadOn
-  leadOn-ok =
+  up-ok : StepOk (view (r .sc) (r .window)) c 0 upSc upW upActs
+  up-ok =
       grew-ok (r .sc) (r .window) w c 0 upSc upW upActs q
-      (assemble (r .sc) w c 0 upSc upW upActs gw up-heads (length-over (λ i s. redone s) noSlot from (w .len) (w .slots) ∙ q .wide) (q .short) up-each (
+      (assemble (r .sc) w c 0 upSc upW upActs gw up-heads (sweep-long (λ i s. redone s) from (w .len) w ∙ q .wide) (q .short) up-each (
         tt,
         (
           tt,
@@ -125,17 +124,13 @@ module _ (r : Replica) (c : Call) (w : Window) (trigger endprep : ℕ) (g : Good
       (λ z. absurd (z refl)))
 
 pub timeoutStep-ok : (r : Replica) (c : Call) → GoodReplica r → (room source : ℕ) → Ok r c (timeoutStep r room source)
-unfolding timeoutStep stepUp
 timeoutStep-ok r c g room source =
-    pick-cases (Ok r c) (not (ready r room)) (λ _. kept-ok r c g 1) (λ _.
-    pick-cases (Ok r c) (not (isMember (r .sc) source)) (λ _. kept-ok r c g 2) (λ _.
-    pick-cases (Ok r c) (ignoresTimeout (r .sc) source) (λ _. kept-ok r c g 0) (λ _.
-    pick-cases (λ (n : NextBallot). Ok r c (stepUp r n)) (ltb 254 (r .sc .id) || eqb (r .sc .«bal_max_seen» / 256) 72057594037927935) (λ _. kept-ok r c g 8) (λ _.
-    pick-cases (Ok r c) (ltb (number (r .sc) (firstOpen (r .window))) (r .sc .«exec_bar»)) (λ _. kept-ok r c g 8) (λ a.
-    pick-cases (Ok r c) (leb 64 (firstOpen (r .window))) (λ _. kept-ok r c g 5) (λ b.
-    let q : Grew (r .window) (grown (r .window) (firstOpen (r .window) + 1)) = grew (r .window) g (firstOpen (r .window) + 1) (omega (arith, tests)) in
-    leadOn-ok r c (grown (r .window) (firstOpen (r .window) + 1)) (number (r .sc) (firstOpen (r .window))) (number (r .sc) (lastOpen (r .window))) g q
-    (λ i h. subst (λ (x : Slot). 3 ≤ x .status) (sym (q .each i)) (open-placed (r .window) i (omega (arith, tests))))))))))
+    timeoutStep-ways (Ok r c) r room source (λ n _. kept-ok r c g n)
+    (λ ballot f.
+    let q : Grew (r .window) (leadWindow r) = grew (r .window) g (firstOpen (r .window) + 1) (omega (arith, f .room)) in
+    subst (λ (b : ℕ). Ok r c (led r b)) (sym (next-given (r .sc .«bal_max_seen») (r .sc .id) ballot (f .next) .made))
+    (up-ok r c (leadWindow r) (leadTrigger r) (leadEnd r) g q
+    (λ i h. subst (λ (x : Slot). 3 ≤ x .status) (sym (q .each i)) (open-placed (r .window) i (omega (arith, f .open-high))))))
 
 -- ── CommitNotice ──
 module _ (r : Replica) (c : Call) (w : Window) (ballot from to : ℕ) (g : GoodReplica r) (q : Grew (r .window) w) (l : from ≤ to) (fits : to ≤ w .len) where
@@ -179,44 +174,37 @@ module _ (r : Replica) (c : Call) (w : Window) (ballot from to : ℕ) (g : GoodR
         rise = λ _ _. noticed-in i a b t;
       })
 
-  here : (i : ℕ) → i < stop → placed w i ≡ slotAt w i
-  here i b = placed-in w i (omega (arith, stop-high))
+  here : (i : ℕ) → i < stop → atPlace w i ≡ slotAt w i
+  here i b = at-here w i (omega (arith, stop-high))
 
   noticed-each : Each (r .sc) w c 0 (r .sc) noticedW noticed
   noticed-each i =
-      sweep-cases (Noticed i (placed w i)) (λ i s. markedSlot s) from stop w i (omega (arith, q .wide, q .short))
+      sweep-cases (λ i s. markedSlot s) from stop w (Noticed i (atPlace w i)) i (omega (arith, q .wide, q .short))
       (λ a b _. subst (λ (x : Slot). Noticed i x (markedSlot x)) (sym (here i b)) (noticed-turned i a b (subst (GoodSlot (r .sc)) (here i b) (gw′ .each i))))
-      (λ _. turned-self (placed w i) (gw′ .each i))
+      (λ _. turned-self (atPlace w i) (gw′ .each i))
 
   noticed-marked : (i : ℕ) → from ≤ i → i < stop → leb committed (slotAt w i .status) ≡ false
       → Marked (view (r .sc) w .slot (r .sc .start + i)) (view (r .sc) noticedW .slot (r .sc .start + i))
   noticed-marked i a b t =
       at-number (λ (x : Cell). Marked x (view (r .sc) noticedW .slot (r .sc .start + i))) (r .sc .start) w (r .sc .start + i) i refl
-      (at-number (Marked (cell (placed w i))) (r .sc .start) noticedW (r .sc .start + i) i refl
-      (subst (λ (y : Slot). Marked (cell (placed w i)) (cell y))
+      (at-number (Marked (cell (atPlace w i))) (r .sc .start) noticedW (r .sc .start + i) i refl
+      (subst (λ (y : Slot). Marked (cell (atPlace w i)) (cell y))
       (sym (sweep-at (λ i s. markedSlot s) from stop w i (omega (arith, q .wide, q .short)) a b (omega (arith, stop-high))))
       (subst (λ (x : Slot). Marked (cell x) (cell (markedSlot x))) (sym (here i b))
       (rw t (record { was = omega (arith, tests, may i a b); now = omega arith; at = refl; val = refl })))))
 
-  pub markOn-ok : Ok r c (markOn r w from stop)
-  unfolding markOn
-  markOn-ok =
+  noticed-ok : StepOk (view (r .sc) (r .window)) c 0 (r .sc) noticedW noticed
+  noticed-ok =
       grew-ok (r .sc) (r .window) w c 0 (r .sc) noticedW noticed q
       (assemble (r .sc) w c 0 (r .sc) noticedW noticed gw′ (heads-same gw′ (same-self (r .sc)))
-      (length-over (λ i s. markedSlot s) noSlot from stop (w .slots) ∙ q .wide) (q .short) noticed-each
+      (sweep-long (λ i s. markedSlot s) from stop w ∙ q .wide) (q .short) noticed-each
       (all-gather marksAt (ActOk (view (r .sc) w) c (view (r .sc) noticedW) noticed) from stop
       (λ i a b. pick-cases (All (ActOk (view (r .sc) w) c (view (r .sc) noticedW) noticed)) (leb committed (slotAt w i .status)) (λ _. tt)
       (λ t. (noticed-marked i a b t, tt))))
       (λ z. absurd (z refl)))
 
 pub commitNoticeStep-ok : (r : Replica) (c : Call) → GoodReplica r → (room peer ballot bar : ℕ) → Ok r c (commitNoticeStep r room peer ballot bar)
-unfolding commitNoticeStep
 commitNoticeStep-ok r c g room peer ballot bar =
-    pick-cases (Ok r c) (not (ready r room)) (λ _. kept-ok r c g 1) (λ _.
-    pick-cases (Ok r c) (not (isPeer (r .sc) peer)) (λ _. kept-ok r c g 2) (λ _.
-    pick-cases (Ok r c) (not (owns ballot peer)) (λ _. kept-ok r c g 3) (λ _.
-    pick-cases (Ok r c) (not (eqb ballot (r .sc .«bal_max_seen»))) (λ _. kept-ok r c g 0) (λ _.
-    pick-cases (Ok r c) (leb bar (r .sc .«commit_bar»)) (λ _. kept-ok r c g 0) (λ a.
-    pick-cases (Ok r c) (ltb (r .sc .start + 64) bar) (λ _. kept-ok r c g 5) (λ b.
-    markOn-ok r c (grown (r .window) (place (r .sc) bar)) ballot (place (r .sc) (r .sc .«commit_bar»)) (place (r .sc) bar) g
-    (grew (r .window) g (place (r .sc) bar) (omega (arith, tests))) (omega (arith, tests)) (len-grown (r .window) (place (r .sc) bar) .0)))))))
+    commitNoticeStep-ways (Ok r c) r room peer ballot bar (λ n _. kept-ok r c g n)
+    (λ f. noticed-ok r c (markWindow r bar) ballot (markFrom r) (place (r .sc) bar) g (grew (r .window) g (place (r .sc) bar) (omega (arith, f .high)))
+    (omega (arith, f .above)) (grown-has (r .window) (place (r .sc) bar)))

@@ -1,43 +1,39 @@
 -- Prepare, Accept, AcceptReply keep to the frame.
 use mathlib.Core.Path.{_≡_, refl, sym, _∙_, ap, subst}
-use mathlib.Core.Bool.{Bool, true, false, not, _&&_, _||_}
+use mathlib.Core.Bool.{Bool, true, false}
 use mathlib.Core.List.{List, [], _∷_, _++_, List·Memᴰ·head, Memᴰ·append-right}
 use mathlib.Core.Logic.{inr}
-use Prim.Native.Nat.{ℕ, _+_, _-_, _%_, _≤_, _<_}
+use Prim.Native.Nat.{ℕ, _+_, _%_, _≤_, _<_}
 use native.Mathlib.Omega.{arith}
-use lib.Dec.{ltb, leb, eqb}
-use lib.ListN.{getD, length-set}
-use borrow.Author.Tests.{ltb-false, eqb-true, eqb-false, not-true, not-false}
-use Rattle.base.specs.Pick.{pick, pick-both, pick-cases, tests, and-left, and-right}
-use Rattle.base.specs.Over.{length-over}
+use lib.Dec.{ltb}
+use lib.ListN.{getD}
+use borrow.Author.Tests.{eqb-true}
+use Rattle.base.specs.Pick.{pick, pick-both, pick-cases, tests}
 use Rattle.base.specs.Gather.{gather, all-gather}
-use Rattle.base.specs.Find.{any}
 use Rattle.base.specs.Among.{All, all-append}
-use Rattle.members.specs.Sets.{has, countIn}
 use Rattle.members.specs.Ballots.{owns}
 use Rattle.batch.specs.declared.Batch.{Batch}
 use Rattle.batch.specs.declared.Made.{Made}
 use Rattle.batch.specs.Batches.{emptyBatch, isBatch, makeBatch, firstKeys}
-use Rattle.batch.specs.Keys.{overfull}
 use Rattle.actions.specs.declared.Says.{Says}
 use Rattle.actions.specs.declared.Action.the-variants.{StatusDown}
 use Rattle.actions.specs.Actions.{Act, bare, saysActs}
 use Rattle.slots.specs.declared.Slot.{Slot}
-use Rattle.slots.specs.Slots.{noSlot, accepting, preparedSlot, acceptedSlot, acknowledgedSlot, committedSlot}
+use Rattle.slots.specs.Slots.{preparedSlot, acceptedSlot, acknowledgedSlot, committedSlot}
 use Rattle.decide.specs.declared.Scalars.{Scalars}
-use Rattle.decide.specs.declared.Decided.{Decided}
-use Rattle.decide.specs.Scalars.{leads, quorum, isPeer, isMember, followed, stepsDown}
-use Rattle.decide.specs.Decide.{silent, decideAccept, decideAcceptReply, awaitsAccept, decideAccepted, decidePromised}
+use Rattle.decide.specs.Scalars.{leads, followed, stepsDown}
 use Rattle.replica.specs.declared.Window.{Window}
 use Rattle.replica.specs.declared.Replica.{Replica}
-use Rattle.replica.specs.Record.{noting, settled, place, number, logEnd, slotAt, putSlot, grown, sweep}
-use Rattle.replica.specs.Fit.{ready}
-use Rattle.replica.specs.Messages.{clean, promise, downActs, prepareTop, prepareBook, prepareOn, prepareStep, acceptOn, acceptStep, acceptReplyStep}
+use Rattle.replica.specs.Record.{place, number, slotAt, putSlot, sweep}
+use Rattle.replica.specs.Messages.{clean, promise, downActs, prepareTop, prepareBook, prepareStep, acceptStep, acceptReplyStep}
 use Rattle.replica.specs.Step.{Call, callAccept}
-use Rattle.agreement.specs.BySlot.{placed, placed-in, len-grown, put-cases, sweep-cases}
+use Rattle.laws.specs.OfDecide.{accepts}
+use Rattle.laws.specs.Windows.{put-long, grown-has, sweep-long}
+use Rattle.laws.specs.ByPlace.{atPlace, at-here, put-cases, put-at, sweep-cases}
+use Rattle.laws.specs.WaysMessages.{prepareWindow, prepareStep-ways, acceptWindow, acceptStep-ways, acceptReplyStep-ways}
 use Rattle.agreement.specs.Theorem.{acceptEntry, commitEntry}
 use Rattle.agreement.specs.Frame.{Cell, cell, View, view, Owns, Clean, Holds, told, Marked, ActOk, kept, wrote, cleared}
-use Rattle.agreement.specs.Good.{GoodSlot, Good, StepOk, Ok, GoodReplica, Heads, Same, same-self, heads-same, good-same, Turned, Like, like-self, turned-like, turned-self, Each, assemble, at-number, Grew, grew, grew-self, good-grew, grew-ok, kept-ok}
+use Rattle.agreement.specs.Good.{GoodSlot, Good, StepOk, Ok, GoodReplica, Heads, Same, same-self, heads-same, good-same, Turned, Like, turned-like, turned-self, Each, assemble, at-number, Grew, grew, good-grew, grew-ok, kept-ok}
 
 -- ── batches ──
 pick-twice : {A : Type 0} (t : Bool) (a b : A) → pick t (pick t a b) b ≡ pick t a b
@@ -116,8 +112,8 @@ module _ (r : Replica) (c : Call) (w : Window) (from peer ballot : ℕ) (g : Goo
 
   prepared-each : Each (r .sc) w c 0 sc′ w′ acts
   prepared-each i =
-      sweep-cases (Turned (view (r .sc) w) sc′ (view sc′ w′) acts (r .sc .start + i) (placed w i)) (λ i s. preparedSlot ballot (prepareBook (r .sc) w from peer) s) from
-      (prepareTop w from + 1) w i (omega (arith, q .wide, q .short))
+      sweep-cases (λ i s. preparedSlot ballot (prepareBook (r .sc) w from peer) s) from (prepareTop w from + 1) w
+      (Turned (view (r .sc) w) sc′ (view sc′ w′) acts (r .sc .start + i) (atPlace w i)) i (omega (arith, q .wide, q .short))
       (λ _ _ _.
       record {
         good = record {
@@ -130,57 +126,27 @@ module _ (r : Replica) (c : Call) (w : Window) (from peer ballot : ℕ) (g : Goo
         step = cleared (λ z. omega arith) (inr (follow-not-own (r .sc) w gw peer ballot o d l));
         rise = λ _ z. absurd (omega arith);
       })
-      (λ _. turned-self (placed w i) (follow-slot (r .sc) w gw peer ballot o d l (placed w i) (gw .each i)))
+      (λ _. turned-self (atPlace w i) (follow-slot (r .sc) w gw peer ballot o d l (atPlace w i) (gw .each i)))
 
-  pub prepareOn-ok : Ok r c (prepareOn r w from peer ballot)
-  unfolding prepareOn
-  prepareOn-ok =
-      pick-cases (Ok r c) (any (λ i. ltb ballot (slotAt w i .ballot)) from (prepareTop w from + 1)) (λ _. kept-ok r c g 6)
-      (λ _.
+  prepared-ok : StepOk (view (r .sc) (r .window)) c 0 sc′ w′ acts
+  prepared-ok =
       grew-ok (r .sc) (r .window) w c 0 sc′ w′ acts q
       (assemble (r .sc) w c 0 sc′ w′ acts gw (follow-heads (r .sc) w gw peer ballot o d l)
-      (length-over (λ i s. preparedSlot ballot (prepareBook (r .sc) w from peer) s) noSlot from (prepareTop w from + 1) (w .slots) ∙ q .wide) (q .short) prepared-each
+      (sweep-long (λ i s. preparedSlot ballot (prepareBook (r .sc) w from peer) s) from (prepareTop w from + 1) w ∙ q .wide) (q .short) prepared-each
       (all-append (ActOk (view (r .sc) w) c (view sc′ w′) acts) (downActs (r .sc) ballot) _
       (pick-both (All (ActOk (view (r .sc) w) c (view sc′ w′) acts)) (stepsDown (r .sc) ballot) (tt, tt) tt)
       (all-gather (λ i. promise (number (r .sc) i) ballot ∷ []) (ActOk (view (r .sc) w) c (view sc′ w′) acts) from (prepareTop w from + 1)
       (λ i _ _. (sym (follow-seen (r .sc) w gw peer ballot o d l), tt))))
-      (λ z. absurd (z refl))))
+      (λ z. absurd (z refl)))
 
--- the tests of a message from another member
-pub peer-other : (sc : Scalars) (peer : ℕ) → not (isPeer sc peer) ≡ false → peer ≡ sc .id → ⊥
-peer-other sc peer e = eqb-false peer (sc .id) (not-true (eqb peer (sc .id)) (and-right (isMember sc peer) (not (eqb peer (sc .id))) (not-false (isPeer sc peer) e)))
-
-pub owns-owns : (ballot peer : ℕ) → not (owns ballot peer) ≡ false → Owns peer ballot
-owns-owns ballot peer e = eqb-true (ballot % 256) (peer + 1) (not-false (owns ballot peer) e)
+pub owns-owns : (ballot peer : ℕ) → owns ballot peer ≡ true → Owns peer ballot
+owns-owns ballot peer e = eqb-true (ballot % 256) (peer + 1) e
 
 pub prepareStep-ok : (r : Replica) (c : Call) → GoodReplica r → (room peer trigger ballot : ℕ) → Ok r c (prepareStep r room peer trigger ballot)
-unfolding prepareStep
 prepareStep-ok r c g room peer trigger ballot =
-    pick-cases (Ok r c) (not (ready r room)) (λ _. kept-ok r c g 1) (λ _.
-    pick-cases (Ok r c) (not (isPeer (r .sc) peer)) (λ _. kept-ok r c g 2) (λ p.
-    pick-cases (Ok r c) (not (owns ballot peer)) (λ _. kept-ok r c g 3) (λ o.
-    pick-cases (Ok r c) (ltb trigger (r .sc .start)) (λ _. kept-ok r c g 0) (λ a.
-    pick-cases (Ok r c) (ltb ballot (r .sc .«bal_max_seen»)) (λ _. kept-ok r c g 0) (λ l.
-    pick-cases (Ok r c) (leb (r .sc .start + 64) trigger) (λ _. kept-ok r c g 5) (λ b.
-    prepareOn-ok r c (grown (r .window) (place (r .sc) trigger + 1)) (place (r .sc) trigger) peer ballot g
-    (grew (r .window) g (place (r .sc) trigger + 1) (omega (arith, tests)))
-    (owns-owns ballot peer o) (peer-other (r .sc) peer p) (ltb-false ballot (r .sc .«bal_max_seen») l)))))))
-
--- ── a decision about one slot, carried out ──
-abbrev pub Decides : Scalars → Window → Call → ℕ → Decided → Type 0
-Decides sc w c i d = d .answer ≡ 0 → StepOk (view sc w) c 0 (d .sc) (putSlot w i (d .slot)) (saysActs (d .says) (d .keys))
-
-pub settled-ok : (r : Replica) (c : Call) → GoodReplica r → (w : Window) → Grew (r .window) w → (i slot : ℕ) (d : Decided) → Decides (r .sc) w c i d
-    → Ok r c (settled r w i slot d)
-unfolding settled noting
-settled-ok r c g w q i slot d k =
-    pick-cases (Ok r c) (not (eqb (d .answer) 0)) (λ _. kept-ok r c g (d .answer)) (λ e.
-    pick-cases (Ok r c) (not (d .noted && true)) (λ _. done e) (λ _.
-    pick-cases (Ok r c) (overfull (r .keys) (d .slot .batch)) (λ _. kept-ok r c g 7) (λ _. done e)))
-  where
-    done : not (eqb (d .answer) 0) ≡ false → StepOk (view (r .sc) (r .window)) c 0 (d .sc) (putSlot w i (d .slot)) (saysActs (d .says) (d .keys))
-    done e = grew-ok (r .sc) (r .window) w c 0 (d .sc) (putSlot w i (d .slot)) (saysActs (d .says) (d .keys)) q
-        (k (eqb-true (d .answer) 0 (not-false (eqb (d .answer) 0) e)))
+    prepareStep-ways (Ok r c) r room peer trigger ballot (λ n _. kept-ok r c g n)
+    (λ f. prepared-ok r c (prepareWindow r trigger) (place (r .sc) trigger) peer ballot g (grew (r .window) g (place (r .sc) trigger + 1) (omega (arith, f .low, f .high)))
+    (owns-owns ballot peer (f .owned)) (f .peer-is .other) (f .seen))
 
 -- ── Accept ──
 module _ (sc : Scalars) (w : Window) (c : Call) (g : Good sc w) (peer slot ballot i : ℕ) (m : Batch) (is : c ≡ callAccept peer slot ballot m) (o : Owns peer ballot)
@@ -190,8 +156,9 @@ module _ (sc : Scalars) (w : Window) (c : Call) (g : Good sc w) (peer slot ballo
 
   accepted-each : (down : List Act) → Each sc w c 0 (followed sc peer ballot) (putSlot w i accepted) (down ++ (acceptEntry slot ballot (clean m) ∷ []))
   accepted-each down k =
-      put-cases (Turned (view sc w) (followed sc peer ballot) (view (followed sc peer ballot) (putSlot w i accepted)) (down ++ (acceptEntry slot ballot (clean m) ∷ []))
-      (sc .start + k) (placed w k)) w i accepted k (omega (arith, g .wide, g .short))
+      put-cases w i accepted
+      (Turned (view sc w) (followed sc peer ballot) (view (followed sc peer ballot) (putSlot w i accepted)) (down ++ (acceptEntry slot ballot (clean m) ∷ []))
+      (sc .start + k) (atPlace w k)) k
       (λ e _.
       record {
         good = record {
@@ -204,56 +171,43 @@ module _ (sc : Scalars) (w : Window) (c : Call) (g : Good sc w) (peer slot ballo
         step = wrote (omega arith) (Memᴰ·append-right down (List·Memᴰ·head (ap (λ (z : ℕ). acceptEntry z ballot (clean m)) (omega arith))));
         rise = λ _ z. absurd (omega arith);
       })
-      (λ _. turned-self (placed w k) (follow-slot sc w g peer ballot o d l (placed w k) (g .each k)))
+      (λ _. turned-self (atPlace w k) (follow-slot sc w g peer ballot o d l (atPlace w k) (g .each k)))
 
   accepted-held : Holds (view (followed sc peer ballot) (putSlot w i accepted) .slot slot) ballot (clean m)
   accepted-held =
       at-number (λ (x : Cell). Holds x ballot (clean m)) (followed sc peer ballot .start) (putSlot w i accepted) slot i
       (omega (arith, follow-start sc w g peer ballot o d l))
-      (put-cases (λ (y : Slot). Holds (cell y) ballot (clean m)) w i accepted i (omega (arith, g .wide, g .short))
-      (λ _ _. record { on = omega arith; at = refl; val = refl }) (λ z. absurd (z refl h)))
+      (subst (λ (y : Slot). Holds (cell y) ballot (clean m)) (sym (put-at w i accepted h (omega (arith, g .wide, g .short))))
+      (record { on = omega arith; at = refl; val = refl }))
 
   accepted-ok : (down : List Act) → ((v : View) (c : Call) (v′ : View) (all : List Act) → All (ActOk v c v′ all) down)
       → StepOk (view sc w) c 0 (followed sc peer ballot) (putSlot w i accepted) (down ++ (acceptEntry slot ballot (clean m) ∷ []))
   accepted-ok down plain =
       assemble sc w c 0 (followed sc peer ballot) (putSlot w i accepted) (down ++ (acceptEntry slot ballot (clean m) ∷ [])) g (follow-heads sc w g peer ballot o d l)
-      (length-set (w .slots) i accepted ∙ g .wide) (g .short) (accepted-each down)
+      (put-long w i accepted ∙ g .wide) (g .short) (accepted-each down)
       (all-append (ActOk (view sc w) c (view (followed sc peer ballot) (putSlot w i accepted)) (down ++ (acceptEntry slot ballot (clean m) ∷ []))) down
       (acceptEntry slot ballot (clean m) ∷ [])
       (plain (view sc w) c (view (followed sc peer ballot) (putSlot w i accepted)) (down ++ (acceptEntry slot ballot (clean m) ∷ [])))
       (record { top = sym (follow-seen sc w g peer ballot o d l); held = accepted-held; why = told peer m is refl o d }, tt))
       (λ z. absurd (z refl))
 
-  pub decideAccept-ok : Decides sc w c i (decideAccept sc (slotAt w i) peer slot ballot (clean m))
-  unfolding decideAccept
-  decideAccept-ok =
-      pick-cases (Decides sc w c i) (ltb ballot (slotAt w i .ballot)) (λ _ z. absurd (omega arith)) (λ _ z.
+  told-ok : StepOk (view sc w) c 0 (followed sc peer ballot) (putSlot w i accepted) (saysActs (accepts sc (slotAt w i) peer slot ballot (clean m) .says) (clean m .keys))
+  told-ok =
       pick-cases (λ (s : Says). StepOk (view sc w) c 0 (followed sc peer ballot) (putSlot w i accepted) (saysActs s (clean m .keys))) (stepsDown sc ballot)
       (λ _. accepted-ok (bare StatusDown ∷ []) (λ v c v′ all. (tt, tt)))
-      (λ _. accepted-ok [] (λ v c v′ all. tt)))
+      (λ _. accepted-ok [] (λ v c v′ all. tt))
 
 pub acceptStep-ok : (r : Replica) (c : Call) → GoodReplica r → (room peer slot ballot : ℕ) (b : Batch) → c ≡ callAccept peer slot ballot b
     → Ok r c (acceptStep r room peer slot ballot b)
-unfolding acceptStep
 acceptStep-ok r c g room peer slot ballot b is =
-    pick-cases (Ok r c) (not (ready r room)) (λ _. kept-ok r c g 1) (λ _.
-    pick-cases (Ok r c) (not (isPeer (r .sc) peer)) (λ _. kept-ok r c g 2) (λ p.
-    pick-cases (Ok r c) (not (owns ballot peer)) (λ _. kept-ok r c g 3) (λ o.
-    pick-cases (Ok r c) (not (isBatch (b .id) (b .count))) (λ _. kept-ok r c g 10) (λ _.
-    pick-cases (Ok r c) (ltb slot (r .sc .start)) (λ _. kept-ok r c g 0) (λ a.
-    pick-cases (Ok r c) (ltb ballot (r .sc .«bal_max_seen»)) (λ _. kept-ok r c g 0) (λ l.
-    pick-cases (Ok r c) (leb (r .sc .start + 64) slot) (λ _. kept-ok r c g 5) (λ e.
-    grown-in (grew (r .window) g (place (r .sc) slot + 1) (omega (arith, tests))) o p l (omega (arith, tests)))))))))
-  where
-    grown-in : Grew (r .window) (grown (r .window) (place (r .sc) slot + 1)) → not (owns ballot peer) ≡ false → not (isPeer (r .sc) peer) ≡ false
-        → ltb ballot (r .sc .«bal_max_seen») ≡ false → slot ≡ r .sc .start + place (r .sc) slot
-        → Ok r c (acceptOn r (grown (r .window) (place (r .sc) slot + 1)) (place (r .sc) slot) peer slot ballot (clean b))
-    grown-in q o p l at =
-        settled-ok r c g (grown (r .window) (place (r .sc) slot + 1)) q (place (r .sc) slot) slot
-        (decideAccept (r .sc) (slotAt (grown (r .window) (place (r .sc) slot + 1)) (place (r .sc) slot)) peer slot ballot (clean b))
-        (decideAccept-ok (r .sc) (grown (r .window) (place (r .sc) slot + 1)) c (good-grew g q) peer slot ballot (place (r .sc) slot) b is (owns-owns ballot peer o)
-        (peer-other (r .sc) peer p) (ltb-false ballot (r .sc .«bal_max_seen») l)
-        at (omega (arith, len-grown (r .window) (place (r .sc) slot + 1) .0)))
+    acceptStep-ways (Ok r c) r room peer slot ballot b (λ n _. kept-ok r c g n)
+    (λ f.
+    let w : Window = acceptWindow r slot in
+    let i : ℕ = place (r .sc) slot in
+    let q : Grew (r .window) w = grew (r .window) g (i + 1) (omega (arith, f .low, f .high)) in
+    grew-ok (r .sc) (r .window) w c 0 (followed (r .sc) peer ballot) _ _ q
+    (told-ok (r .sc) w c (good-grew g q) peer slot ballot i b is (owns-owns ballot peer (f .owned)) (f .peer-is .other) (f .seen) (omega (arith, f .low))
+    (omega (arith, grown-has (r .window) (i + 1)))))
 
 -- ── a slot whose status, ballot, batch and vote stay, with actions that are no entries ──
 abbrev pub Plain : List Act → Type 0
@@ -262,11 +216,11 @@ Plain acts = (v : View) (c : Call) (v′ : View) (all : List Act) → All (ActOk
 pub like-ok : (sc : Scalars) (w : Window) (c : Call) (sc′ : Scalars) (i : ℕ) (y : Slot) (acts : List Act) → Good sc w → Same sc sc′ → i < w .len → Like (slotAt w i) y
     → Plain acts → StepOk (view sc w) c 0 sc′ (putSlot w i y) acts
 like-ok sc w c sc′ i y acts g q h l plain =
-    assemble sc w c 0 sc′ (putSlot w i y) acts g (heads-same g q) (length-set (w .slots) i y ∙ g .wide) (g .short)
+    assemble sc w c 0 sc′ (putSlot w i y) acts g (heads-same g q) (put-long w i y ∙ g .wide) (g .short)
     (λ k.
-    put-cases (Turned (view sc w) sc′ (view sc′ (putSlot w i y)) acts (sc .start + k) (placed w k)) w i y k (omega (arith, g .wide, g .short))
-    (λ e u. turned-like (placed w k) y (good-same q (g .each k)) (subst (λ (x : Slot). Like x y) (sym (ap (placed w) e ∙ placed-in w i h)) l))
-    (λ _. turned-self (placed w k) (good-same q (g .each k))))
+    put-cases w i y (Turned (view sc w) sc′ (view sc′ (putSlot w i y)) acts (sc .start + k) (atPlace w k)) k
+    (λ e u. turned-like (atPlace w k) y (good-same q (g .each k)) (subst (λ (x : Slot). Like x y) (sym (ap (atPlace w) e ∙ at-here w i h)) l))
+    (λ _. turned-self (atPlace w k) (good-same q (g .each k))))
     (plain (view sc w) c (view sc′ (putSlot w i y)) acts) (λ z. absurd (z refl))
 
 -- ── AcceptReply, also a leader's to itself ──
@@ -277,74 +231,40 @@ module _ (sc : Scalars) (w : Window) (c : Call) (g : Good sc w) (slot i : ℕ) (
 
     marked-each : Each sc w c 0 sc (putSlot w i marked) (commitEntry slot ∷ [])
     marked-each k =
-        put-cases (Turned (view sc w) sc (view sc (putSlot w i marked)) (commitEntry slot ∷ []) (sc .start + k) (placed w k)) w i marked k
-        (omega (arith, g .wide, g .short))
+        put-cases w i marked (Turned (view sc w) sc (view sc (putSlot w i marked)) (commitEntry slot ∷ []) (sc .start + k) (atPlace w k)) k
         (λ e _.
         subst (λ (x : Slot). Turned (view sc w) sc (view sc (putSlot w i marked)) (commitEntry slot ∷ []) (sc .start + k) x marked)
-        (sym (ap (placed w) e ∙ placed-in w i h))
+        (sym (ap (atPlace w) e ∙ at-here w i h))
         (record {
           good = record { under = good-here .under; busy = λ _ _ z. absurd (omega arith); tidy = good-here .tidy; tidyVote = good-here .tidyVote };
           step = kept (omega (arith, is)) (λ z. absurd (omega arith)) (record { on = omega arith; at = refl; val = refl });
           rise = λ _ _. List·Memᴰ·head (ap commitEntry (omega arith));
         }))
-        (λ _. turned-self (placed w k) (g .each k))
+        (λ _. turned-self (atPlace w k) (g .each k))
       where
         good-here : GoodSlot sc (slotAt w i)
-        good-here = subst (GoodSlot sc) (placed-in w i h) (g .each i)
+        good-here = subst (GoodSlot sc) (at-here w i h) (g .each i)
 
     marked-marked : Marked (view sc w .slot slot) (view sc (putSlot w i marked) .slot slot)
     marked-marked =
         at-number (λ (x : Cell). Marked x (view sc (putSlot w i marked) .slot slot)) (sc .start) w slot i at
-        (at-number (Marked (cell (placed w i))) (sc .start) (putSlot w i marked) slot i at
-        (subst (λ (x : Slot). Marked (cell x) (cell (placed (putSlot w i marked) i))) (sym (placed-in w i h))
-        (put-cases (λ (y : Slot). Marked (cell (slotAt w i)) (cell y)) w i marked i (omega (arith, g .wide, g .short))
-        (λ _ _. record { was = is; now = omega arith; at = refl; val = refl }) (λ z. absurd (z refl h)))))
+        (at-number (Marked (cell (atPlace w i))) (sc .start) (putSlot w i marked) slot i at
+        (subst (λ (x : Slot). Marked (cell x) (cell (atPlace (putSlot w i marked) i))) (sym (at-here w i h))
+        (subst (λ (y : Slot). Marked (cell (slotAt w i)) (cell y)) (sym (put-at w i marked h (omega (arith, g .wide, g .short))))
+        (record { was = is; now = omega arith; at = refl; val = refl }))))
 
     pub marked-ok : StepOk (view sc w) c 0 sc (putSlot w i marked) (commitEntry slot ∷ [])
     marked-ok =
-        assemble sc w c 0 sc (putSlot w i marked) (commitEntry slot ∷ []) g (heads-same g (same-self sc)) (length-set (w .slots) i marked ∙ g .wide) (g .short)
+        assemble sc w c 0 sc (putSlot w i marked) (commitEntry slot ∷ []) g (heads-same g (same-self sc)) (put-long w i marked ∙ g .wide) (g .short)
         marked-each (marked-marked, tt) (λ z. absurd (z refl))
 
-  silent-ok : (n : ℕ) (y : Slot) → Like (slotAt w i) y → Decides sc w c i (silent n sc y)
-  silent-ok n y l _ = like-ok sc w c sc i y [] g (same-self sc) h l (λ _ _ _ _. tt)
-
-  pub decideAcceptReply-ok : (peer ballot : ℕ) → Decides sc w c i (decideAcceptReply sc (slotAt w i) peer slot ballot)
-  unfolding decideAcceptReply
-  decideAcceptReply-ok peer ballot =
-      pick-cases (Decides sc w c i) (not (awaitsAccept sc (slotAt w i) ballot)) (λ _. silent-ok 0 (slotAt w i) (like-self (slotAt w i))) (λ a.
-      pick-cases (Decides sc w c i) (not (eqb (slotAt w i .ballot) ballot) || (ltb (sc .«bal_max_seen») ballot || not (slotAt w i .leader .present)))
-      (λ _. silent-ok 6 (slotAt w i) (like-self (slotAt w i))) (λ _.
-      pick-cases (Decides sc w c i) (has (slotAt w i .leader .«accept_acks») peer) (λ _. silent-ok 0 (slotAt w i) (like-self (slotAt w i))) (λ _.
-      pick-cases (Decides sc w c i) (ltb (countIn (acknowledgedSlot peer (slotAt w i) .leader .«accept_acks»)) (quorum sc))
-      (λ _. silent-ok 0 (acknowledgedSlot peer (slotAt w i)) (record { status = refl; ballot = refl; batch = refl; vote = refl }))
-      (λ _ _. marked-ok peer (eqb-true (slotAt w i .status) 2
-      (and-left (eqb (slotAt w i .status) accepting) (leb (slotAt w i .ballot) ballot)
-      (and-right (leads sc) (eqb (slotAt w i .status) accepting && leb (slotAt w i .ballot) ballot) (not-false (awaitsAccept sc (slotAt w i) ballot) a))))))))
-
-  -- handle_logged_accept_data and, on a follower, handle_logged_prepare_bal
-  pub decideAccepted-ok : Decides sc w c i (decideAccepted sc (slotAt w i) slot)
-  unfolding decideAccepted
-  decideAccepted-ok =
-      pick-cases (Decides sc w c i) (leads sc)
-      (λ _. pick-cases (Decides sc w c i) (eqb (slotAt w i .ballot) (sc .«bal_prepared»)) (λ _. decideAcceptReply-ok (sc .id) (slotAt w i .ballot))
-      (λ _. silent-ok 0 (slotAt w i) (like-self (slotAt w i))))
-      (λ _. pick-cases (Decides sc w c i) (not (slotAt w i .replica .present)) (λ _. silent-ok 0 (slotAt w i) (like-self (slotAt w i)))
-      (λ _ _. like-ok sc w c sc i (slotAt w i) _ g (same-self sc) h (like-self (slotAt w i)) (λ _ _ _ _. (tt, tt))))
-
-  pub decidePromised-ok : Decides sc w c i (decidePromised sc (slotAt w i) slot)
-  unfolding decidePromised
-  decidePromised-ok =
-      pick-cases (Decides sc w c i) (not (slotAt w i .replica .present)) (λ _. silent-ok 0 (slotAt w i) (like-self (slotAt w i)))
-      (λ _ _. like-ok sc w c sc i (slotAt w i) _ g (same-self sc) h (like-self (slotAt w i)) (λ _ _ _ _. (tt, tt)))
+  -- the member is put into the set
+  pub acked-ok : (peer : ℕ) → StepOk (view sc w) c 0 sc (putSlot w i (acknowledgedSlot peer (slotAt w i))) []
+  acked-ok peer =
+      like-ok sc w c sc i (acknowledgedSlot peer (slotAt w i)) [] g (same-self sc) h (record { status = refl; ballot = refl; batch = refl; vote = refl }) (λ _ _ _ _. tt)
 
 pub acceptReplyStep-ok : (r : Replica) (c : Call) → GoodReplica r → (room peer slot ballot : ℕ) → Ok r c (acceptReplyStep r room peer slot ballot)
-unfolding acceptReplyStep
 acceptReplyStep-ok r c g room peer slot ballot =
-    pick-cases (Ok r c) (not (ready r room)) (λ _. kept-ok r c g 1) (λ _.
-    pick-cases (Ok r c) (not (isPeer (r .sc) peer)) (λ _. kept-ok r c g 2) (λ _.
-    pick-cases (Ok r c) (ltb slot (r .sc .start)) (λ _. kept-ok r c g 0) (λ a.
-    pick-cases (Ok r c) (not (eqb ballot (r .sc .«bal_prepared»))) (λ _. kept-ok r c g 0) (λ _.
-    pick-cases (Ok r c) (leb (logEnd r) slot) (λ _. kept-ok r c g 4) (λ b.
-    settled-ok r c g (r .window) (grew-self (r .window) g) (place (r .sc) slot) slot
-    (decideAcceptReply (r .sc) (slotAt (r .window) (place (r .sc) slot)) peer slot ballot)
-    (decideAcceptReply-ok (r .sc) (r .window) c g slot (place (r .sc) slot) (omega (arith, tests)) (omega (arith, tests)) peer ballot))))))
+    acceptReplyStep-ways (Ok r c) r room peer slot ballot (λ n _. kept-ok r c g n)
+    (λ f q. acked-ok (r .sc) (r .window) c g slot (place (r .sc) slot) (omega (arith, f .low)) (omega (arith, f .low, f .high)) peer)
+    (λ f q. marked-ok (r .sc) (r .window) c g slot (place (r .sc) slot) (omega (arith, f .low)) (omega (arith, f .low, f .high)) peer (f .counts .status))

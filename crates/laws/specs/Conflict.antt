@@ -4,12 +4,12 @@ use mathlib.Core.Bool.{_||_}
 use Prim.Native.Nat.{ℕ}
 use lib.Dec.{ltb, leb}
 use lib.ListN.{getD, set}
-use lib.Seq.{getD-set-other}
 use Rattle.base.specs.Pick.{pick-both}
 use Rattle.tally.specs.declared.Tally.{Tally}
 use Rattle.tally.specs.declared.Read.{Read}
 use Rattle.tally.specs.declared.Reads.{Reads}
 use Rattle.tally.specs.Open.{noRead, putRead}
+use Rattle.tally.specs.ReadLaws.{put-count, put-others}
 use Rattle.replica.specs.declared.Replica.{Replica}
 use Rattle.replica.specs.Record.{Outcome}
 use Rattle.replica.specs.Step.{Call, callPrepare, callPrepareReply, callAccept, callAcceptReply, callCommitNotice, callTimeout, callLogged, callOffer, callExecuted, callOpenRead, callReadReply}
@@ -52,12 +52,6 @@ module _ (rs : Reads) (i : ℕ) (d : Read) where
   pub put-each : (P : Read → Type 0) (j : ℕ) → (j ≡ i → P d) → P (getD (rs .reads) j noRead) → P (getD (putRead rs i d .reads) j noRead)
   put-each P j p q = put-ways (λ (x : Reads). P (getD (x .reads) j noRead)) q (set-each noRead P (rs .reads) i j d p q)
 
-  pub put-count : putRead rs i d .count ≡ rs .count
-  put-count = put-ways (λ (x : Reads). x .count ≡ rs .count) refl refl
-
-  pub put-else : (j : ℕ) → (j ≡ i → ⊥) → getD (putRead rs i d .reads) j noRead ≡ getD (rs .reads) j noRead
-  put-else j n = put-ways (λ (x : Reads). getD (x .reads) j noRead ≡ getD (rs .reads) j noRead) refl (getD-set-other (rs .reads) i j d noRead n)
-
 pub conflict-only : (r : Replica) (id : ℕ) (reply : Tally) (k : ℕ)
     → TallyOnly r id (stayed 12 r (readPlace r id) (mergedRead (readAt r (readPlace r id)) reply k) .replica)
 conflict-only r id reply k =
@@ -69,7 +63,7 @@ conflict-only r id reply k =
       window = refl;
       keys = refl;
       count = put-count (r .reads) i d;
-      others = λ j n. put-else (r .reads) i d j n;
+      others = put-others (r .reads) i d;
       read-id = put-each (r .reads) i d (λ (x : Read). x .id ≡ readAt r i .id) i (λ e. refl) refl;
       read-acks = put-each (r .reads) i d (λ (x : Read). x .acks ≡ readAt r i .acks) i (λ e. refl) refl;
       read-keys = put-each (r .reads) i d (λ (x : Read). x .keys ≡ readAt r i .keys) i (λ e. refl) refl;

@@ -37,7 +37,7 @@ use Rattle.laws.specs.Windows.{size, put-long, grown-has, grown-most, sw
 use Rattle.laws.specs.WaysMessages.{Keeps, Prepares, prepareWindow, prepareEnd}
 use Rattle.laws.specs.WaysReply.{replyWindow, heardWindow, countedWindow, tabledSc, replyOn-ways}
 use Rattle.laws.specs.WaysLeadership.{Leads, leadWindow, leadFrom, markEnd, markFrom, markWindow}
-use Rattle.laws.specs.WaysDurability.{logged, withSlot, Completes, completes-silent, completes-more, completes-commit, completes-report, passFrom}
+use Rattle.laws.specs.WaysDurability.{logged, withSlot, Completes, completes-silent, completes-more, completes-commit, completes-report, moved-ways, passFrom}
 use Rattle.laws.specs.WaysAdded.{readAt, readPlace, Asked}
 
 -- ── how many actions ──
@@ -93,24 +93,26 @@ prepared-few r peer trigger ballot f =
 pub append-few : (r : Replica) (i : ℕ) → length (appendActs r i) ≤ (i + 1) - r .window .len
 append-few r i = length-gather (λ k. promise (number (r .sc) k) (r .sc .«bal_prep_sent») ∷ []) (λ k. le-refl 1) (r .window .len) (i + 1)
 
--- a PrepareReply that acts, whatever the outcome is wrapped in
-module _ (P : Outcome → Type 0) (r : Replica) (peer : ℕ) (m : Reply) (room : r .window .len ≤ 64) where
+-- the list behind the window stays as long
+module _ (r : Replica) (peer : ℕ) (m : Reply) where
   pub heard-long : size (heardWindow r m) ≡ size (r .window)
   heard-long = put-long (replyWindow r m) (place (r .sc) (m .slot)) _ ∙ appended-long r (place (r .sc) (m .trigger)) (place (r .sc) (m .slot))
 
   pub counted-long : size (countedWindow r peer m) ≡ size (r .window)
   counted-long = put-long (heardWindow r m) (place (r .sc) (m .trigger)) _ ∙ heard-long
 
+-- a PrepareReply that acts, whatever the outcome is wrapped in
+module _ (P : Outcome → Type 0) (r : Replica) (peer : ℕ) (m : Reply) (room : r .window .len ≤ 64) where
   pub replyOn-leaves : Keeps P r → ((after : Replica) (acts : List Act) → length acts ≤ 191 → Fixed (r .sc) (after .sc) → size (after .window) ≡ size (r .window) → P (done after acts))
       → P (replyOn r peer m)
   replyOn-leaves k on =
       let i : ℕ = place (r .sc) (m .slot) in
       let j : ℕ = place (r .sc) (m .trigger) in
       let fixed = fallen-fixed (r .sc) (r .bars) peer (m .bar) in
-      replyOn-ways P r peer m k
+      replyOn-ways P r peer m (λ a h z. k a h)
       (λ f a. on _ _ (omega (arith, f .low, f .from, f .high, append-few r i)) fixed (appended-long r j i))
-      (λ f h e. on _ _ (omega (arith, f .low, f .from, f .high, append-few r i)) fixed heard-long)
-      (λ f h e q. on _ _ (omega (arith, f .low, f .from, f .high, append-few r i)) fixed counted-long)
+      (λ f h e. on _ _ (omega (arith, f .low, f .from, f .high, append-few r i)) fixed (heard-long r peer m))
+      (λ f h e q. on _ _ (omega (arith, f .low, f .from, f .high, append-few r i)) fixed (counted-long r peer m))
       (λ f h e q b.
       let g : ℕ → List Act = λ k. enterActs (number (tabledSc r peer m) k) (m .ballot) (slotAt (countedWindow r peer m) k) in
       on _ _
@@ -126,7 +128,7 @@ module _ (P : Outcome → Type 0) (r : Replica) (peer : ℕ) (m : Reply) (room :
         length-gather-two g (λ k. enter-few (number (tabledSc r peer m) k) (m .ballot) (slotAt (countedWindow r peer m) k)) j (replyWindow r m .len),
       ))
       (fixed-then _ _ _ fixed (record { id = refl; group = refl; start = refl; options = refl }))
-      (sweep-long (λ i s. enteredSlot s) j (replyWindow r m .len) (countedWindow r peer m) ∙ counted-long))
+      (sweep-long (λ i s. enteredSlot s) j (replyWindow r m .len) (countedWindow r peer m) ∙ counted-long r peer m))
 
 -- ── a timeout, a CommitNotice ──
 pub led-few : (r : Replica) (source ballot : ℕ) (a b c : Act) → Leads r source ballot
@@ -146,13 +148,11 @@ mark-end r ballot bar a h = omega (arith, scan-high (λ i. mayMark ballot (slotA
 
 -- ── a log completion ──
 pub moved-fixed : (r : Replica) (slot : ℕ) → Fixed (r .sc) (movedAccept r slot .sc)
-unfolding movedAccept
 moved-fixed r slot =
-    pick-both (λ (x : Replica). Fixed (r .sc) (x .sc)) (not (eqb slot (r .sc .«accept_bar»))) (fixed-same (r .sc)) (record { id = refl; group = refl; start = refl; options = refl })
+    moved-ways (λ (x : Replica). Fixed (r .sc) (x .sc)) r slot (fixed-same (r .sc)) (λ bar. record { id = refl; group = refl; start = refl; options = refl })
 
 pub moved-window : (r : Replica) (slot : ℕ) → movedAccept r slot .window ≡ r .window
-unfolding movedAccept
-moved-window r slot = pick-both (λ (x : Replica). x .window ≡ r .window) (not (eqb slot (r .sc .«accept_bar»))) refl refl
+moved-window r slot = moved-ways (λ (x : Replica). x .window ≡ r .window) r slot refl (λ bar. refl)
 
 -- what an AcceptData entry does before accept_bar moves
 pub completes-leaves : (P : Replica → List Act → Type 0) (r : Replica) (i slot : ℕ) (after : Replica) (acts : List Act) → Completes r i slot after acts

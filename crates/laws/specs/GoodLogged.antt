@@ -80,10 +80,10 @@ module _ (Z : Type 0) (r : Replica) (g : Good Z r) where
       let i : ℕ = place (r .sc) (d .slot) in
       let g′ : Logs r d → Good Z (logged r d) = λ f. sized-good Z r g d (f .low) (f .high) in
       let at : Logs r d → place (r .sc) (d .slot) < logged r d .window .len = λ f. logged-in Z r g d (f .low) (f .high) in
-      loggedStep-ways (λ (o : Outcome). Good Z (o .replica)) r n d (λ a h. g) g′
+      loggedStep-ways (λ (o : Outcome). Good Z (o .replica)) r n d (λ a h z. g) (λ f z. g′ f)
       (λ f e o. replyOn-good Z r′ (g′ f) (λ (o : Outcome). Good Z (orKept r o .replica)) (r′ .sc .id) (ownReply (r′ .sc) (loggedAt r d) (d .slot)) (g′ f .numbers .member)
       (good-sent Z (r′ .sc .group) (loggedAt r d) (g′ f .window .each i (at f)))
-      (λ a h. orKept-ways (λ (o : Outcome). Good Z (o .replica)) r a r′ (g′ f) (λ z. g)) (λ after acts p. p))
+      (λ a h. orKept-ways (λ (o : Outcome). Good Z (o .replica)) r a r′ (λ z. g′ f) (λ z. g)) (λ after acts p. p))
       (λ f e l p. g′ f) (λ f e after acts c. moved-good Z after (completed-good Z r′ (g′ f) i (d .slot) after acts (at f) c) (d .slot)) (λ f e b. passed-good Z r′ (g′ f))
 
   -- every call

@@ -106,7 +106,7 @@ module _ (Z : Type 0) (r : Replica) (g : Good Z r) where
       λ f. numbers-fallen (r .sc) _ (numbers-more (r .sc) (r .window .len) (g .numbers) _ (appended-low r j i) (w f .room)) (r .bars) peer (m .bar) in
       let keys = good-keys Z (adoptsVote (replySlot r m) m) (m .slot) (heardSlot (replySlot r m) m .batch) (r .keys) (g .keys) in
       let bars : Z → length (Rattle.decide.specs.Bars.withBar (r .sc) (r .bars) peer (m .bar) .bars) ≡ 9 = λ z. bars-long (r .sc) (r .bars) peer (m .bar) ∙ g .bars z in
-      replyOn-ways P r peer m k
+      replyOn-ways P r peer m (λ a h z. k a h)
       (λ f a. on _ _ (good-after Z r _ fixed (numbers f) (w f) (g .keys) (g .reads) bars))
       (λ f h e. on _ _ (good-after Z r _ fixed (numbers f) (heard f) keys (g .reads) bars))
       (λ f h e q. on _ _ (good-after Z r _ fixed (numbers f) (counted f) keys (g .reads) bars))
@@ -117,7 +117,7 @@ module _ (Z : Type 0) (r : Replica) (g : Good Z r) where
 
   pub prepareReply-good : (n peer : ℕ) (m : Reply) → After (prepareReplyStep r n peer m)
   prepareReply-good n peer m =
-      prepareReplyStep-ways After r n peer m after-kept
+      prepareReplyStep-ways After r n peer m (λ a h z. g)
       (λ f. replyOn-good After peer (cleanReply m) (f .peer-is .member) (good-clean Z (m .vote .batch)) after-kept (λ after acts p. p))
 
   -- ── leadership ──

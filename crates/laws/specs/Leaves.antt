@@ -5,12 +5,12 @@ use mathlib.Core.List.{List, []}
 use Prim.Native.Nat.{ℕ}
 use lib.Dec.{eqb}
 use lib.Seq.{set-getD}
-use borrow.Author.Tests.{eqb-true, eqb-false, not-true, not-false}
+use borrow.Author.Tests.{eqb-true, eqb-false, not-false}
 use Rattle.base.specs.Pick.{pick, pick-cases}
 use Rattle.batch.specs.declared.Batch.{Batch}
 use Rattle.batch.specs.declared.KeyTable.{KeyTable}
 use Rattle.batch.specs.Keys.{refresh, overfull}
-use Rattle.actions.specs.Actions.{Act, saysActs}
+use Rattle.actions.specs.Actions.{Act}
 use Rattle.slots.specs.declared.Slot.{Slot}
 use Rattle.slots.specs.Slots.{noSlot}
 use Rattle.decide.specs.declared.Decided.{Decided}
@@ -49,18 +49,10 @@ module _ (P : Outcome → Type 0) (r : Replica) where
   noting-refused true slot b a other n p = pick-cases P (not (eqb a 0)) (λ t. p) (λ t. absurd (n (eqb-true a 0 (not-false _ t))))
   noting-refused false slot b a other n p = p
 
-  pub settled-ways : (w : Window) (i slot : ℕ) (d : Decided) → ((d .answer ≡ 0 → ⊥) → P (kept (d .answer) r)) → P (kept 7 r)
-      → (d .answer ≡ 0 → (d .noted && overfull (r .keys) (d .slot .batch)) ≡ false → P (done (settledTo r w i slot d) (saysActs (d .says) (d .keys))))
-      → P (settled r w i slot d)
-  unfolding settled
-  settled-ways w i slot d refused seven on =
-      pick-cases P (not (eqb (d .answer) 0)) (λ t. refused (eqb-false _ _ (not-true _ t)))
-      (λ t. noting-ways (d .noted) slot (d .slot .batch) _ _ refl seven (on (eqb-true _ _ (not-false _ t))))
-
   -- a refusal of a part is a refusal of the whole; a part that does nothing leaves what was done before it
-  pub orKept-ways : (a : ℕ) (part : Replica) → P (done part []) → ((a ≡ 0 → ⊥) → P (kept a r)) → P (orKept r (kept a part))
+  pub orKept-ways : (a : ℕ) (part : Replica) → (a ≡ 0 → P (done part [])) → ((a ≡ 0 → ⊥) → P (kept a r)) → P (orKept r (kept a part))
   orKept-ways a part p refused =
-      pick-cases P (eqb a 0) (λ t. rw (eqb-true a 0 t) p) (λ t. refused (eqb-false a 0 t))
+      pick-cases P (eqb a 0) (λ t. rw (eqb-true a 0 t) (p (eqb-true a 0 t))) (λ t. refused (eqb-false a 0 t))
 
 -- a slot put back where it stood
 pub put-back : (w : Window) (i : ℕ) → putSlot w i (slotAt w i) ≡ w

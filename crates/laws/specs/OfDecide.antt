@@ -1,6 +1,6 @@
 -- What each decision may be, by name, and the tests that lead to it.
 use mathlib.Core.Path.{_≡_}
-use mathlib.Core.Bool.{Bool, true, false, not, _&&_, _||_}
+use mathlib.Core.Bool.{true, false, not, _||_}
 use Prim.Native.Nat.{ℕ, _≤_, _<_}
 use lib.Dec.{ltb, eqb}
 use borrow.Author.Tests.{ltb-true, ltb-false, eqb-true, not-true, not-false}
@@ -8,15 +8,14 @@ use Rattle.base.specs.Pick.{pick, pick-cases, and-left, and-right, or-false}
 use Rattle.members.specs.Sets.{has, countIn}
 use Rattle.batch.specs.declared.Batch.{Batch}
 use Rattle.actions.specs.declared.Action.the-variants.{AcceptData, CommitSlot, PrepareReply, AcceptReply, StatusDown}
-use Rattle.actions.specs.declared.Says.the-variants.{Nothing, One, Two}
+use Rattle.actions.specs.declared.Says.the-variants.{One, Two}
 use Rattle.actions.specs.Actions.{noKeys}
-use Rattle.slots.specs.declared.Vote.{Vote}
 use Rattle.slots.specs.declared.Slot.{Slot}
-use Rattle.slots.specs.Slots.{accepting, adoptedSlot, countedSlot, acceptedSlot, acknowledgedSlot, committedSlot}
+use Rattle.slots.specs.Slots.{accepting, countedSlot, acceptedSlot, acknowledgedSlot, committedSlot}
 use Rattle.decide.specs.declared.Scalars.{Scalars}
 use Rattle.decide.specs.declared.Decided.{Decided}
 use Rattle.decide.specs.Scalars.{leads, quorum, followed, stepsDown, withPrepared}
-use Rattle.decide.specs.Decide.{silent, proposal, decideAccept, awaitsAccept, decideAcceptReply, decideVote, isCounted, decideCount, sentVote, decidePromised, decideAccepted}
+use Rattle.decide.specs.Decide.{silent, proposal, decideAccept, awaitsAccept, decideAcceptReply, isCounted, decideCount, sentVote, decidePromised, decideAccepted}
 
 -- ── an Accept taken ──
 abbrev pub accepts : Scalars → Slot → ℕ → ℕ → ℕ → Batch → Decided
@@ -75,30 +74,9 @@ module _ (P : Decided → Type 0) (sc : Scalars) (s : Slot) (peer slot ballot : 
       pick-cases P (ltb (countIn (acknowledgedSlot peer s .leader .«accept_acks»)) (quorum sc)) (λ w. more f (ltb-true _ _ w)) (λ w. full f (ltb-false _ _ w)))))
 
 -- ── a vote in a PrepareReply ──
-abbrev pub adopts : Scalars → Slot → Vote → Decided
-adopts sc s v = record { answer = 0; noted = true; sc = sc; slot = adoptedSlot v s; says = Nothing; keys = noKeys }
-
 pub record Hears (sc : Scalars) (s : Slot) (ballot : ℕ) : Type 0 where
   pub even : s .ballot ≡ ballot
   pub seen : ballot ≤ sc .«bal_max_seen»
-
-pub decideVote-ways : (P : Decided → Type 0) (sc : Scalars) (s : Slot) (ballot : ℕ) (voted : Bool) (v : Vote) → P (silent 6 sc s)
-    → (Hears sc s ballot → (voted && ltb (s .leader .«prepare_max_bal») (v .ballot)) ≡ false → P (silent 0 sc s))
-    → (Hears sc s ballot → voted ≡ true → s .leader .present ≡ true → s .leader .«prepare_max_bal» < v .ballot → P (adopts sc s v))
-    → P (decideVote sc s ballot voted v)
-unfolding decideVote
-decideVote-ways P sc s ballot voted v six zero on =
-    pick-cases P (not (eqb (s .ballot) ballot) || (ltb (sc .«bal_max_seen») ballot || (voted && not (s .leader .present)))) (λ t. six)
-    (λ t.
-    let b = or-false (not (eqb (s .ballot) ballot)) _ t in
-    let c = or-false (ltb (sc .«bal_max_seen») ballot) _ (b .1) in
-    let f : Hears sc s ballot = record { even = eqb-true _ _ (not-false _ (b .0)); seen = ltb-false _ _ (c .0) } in
-    pick-cases P (voted && ltb (s .leader .«prepare_max_bal») (v .ballot))
-    (λ u. on f (and-left voted _ u) (not-false _ (second voted (s .leader .present) (and-left voted _ u) (c .1))) (ltb-true _ _ (and-right voted _ u)))
-    (λ u. zero f u))
-  where
-    second : (a b : Bool) → a ≡ true → (a && not b) ≡ false → not b ≡ false
-    second a b p q = rw p at q
 
 -- ── a member counted at the trigger slot ──
 pub decideCount-ways : (P : Decided → Type 0) (sc : Scalars) (t : Slot) (peer ballot : ℕ) → P (silent 6 sc t)

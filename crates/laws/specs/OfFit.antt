@@ -11,11 +11,10 @@ use Rattle.base.specs.Pick.{pick-cases, and-left, and-right, and-make, clash}
 use Rattle.base.specs.Find.{any, any-false}
 use Rattle.members.specs.Sets.{fitsGroup}
 use Rattle.members.specs.Groups.{groupSize}
-use Rattle.members.specs.Laws.{within-none}
 use Rattle.tally.specs.declared.Reads.{Reads}
 use Rattle.tally.specs.Open.{noRead}
 use Rattle.slots.specs.declared.Slot.{Slot}
-use Rattle.slots.specs.Slots.{fitSlot, nullSlot}
+use Rattle.slots.specs.Slots.{fitSlot}
 use Rattle.decide.specs.declared.Scalars.{Scalars}
 use Rattle.decide.specs.Scalars.{nobody}
 use Rattle.replica.specs.declared.Window.{Window}
@@ -98,9 +97,6 @@ slot-facts group s e =
 pub facts-slot : (group : ℕ) (s : Slot) → FitSlot group s → fitSlot group s ≡ true
 unfolding fitSlot
 facts-slot group s f = and-make (le-leb _ _ (f .batch)) (and-make (le-leb _ _ (f .vote)) (and-make (f .prepare-acks) (f .accept-acks)))
-
-pub fit-null : (group : ℕ) → FitSlot group nullSlot
-fit-null group = record { batch = omega arith; vote = omega arith; prepare-acks = within-none group; accept-acks = within-none group }
 
 -- ── a whole record ──
 none-fails : (p : ℕ → Bool) (end : ℕ) → ((i : ℕ) → i < end → p i ≡ true) → any (λ i. not (p i)) 0 end ≡ false

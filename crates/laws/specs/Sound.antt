@@ -81,7 +81,7 @@ module _ (C : Outcome → Type 0) where
 
   prepareReply-sound : (r : Replica) (n peer : ℕ) (m : Reply) → Sound C r (prepareReplyStep r n peer m)
   prepareReply-sound r n peer m =
-      prepareReplyStep-ways (Sound C r) r n peer m (sound-kept r)
+      prepareReplyStep-ways (Sound C r) r n peer m (λ a h z. sound-kept r a h)
       (λ f. replyOn-leaves (Sound C r) r peer (cleanReply m) (fit-facts r (f .fits) .numbers .window) (sound-kept r) (λ after acts. sound-done r after acts))
 
   timeout-sound : (r : Replica) (n source : ℕ) → Sound C r (timeoutStep r n source)
@@ -109,9 +109,9 @@ module _ (C : Outcome → Type 0) where
       let acts : (after : Replica) (acts : List Act) → length acts ≤ 191 → Fixed (r′ .sc) (after .sc) → size (after .window) ≡ size (r′ .window) → Sound C r (done after acts) =
       λ after acts few fixed long. sound-done r after acts few (fixed-then _ _ _ (logged-fixed r d) fixed) (long ∙ logged-long r d) in
       let idle : Sound C r (done r′ []) = acts r′ [] (omega arith) (fixed-same (r′ .sc)) refl in
-      loggedStep-ways (Sound C r) r n d (sound-kept r) (λ f. idle)
+      loggedStep-ways (Sound C r) r n d (λ a h z. sound-kept r a h) (λ f z. idle)
       (λ f e o. replyOn-leaves (λ (o : Outcome). Sound C r (orKept r o)) r′ (r′ .sc .id) _ (numbers f .window)
-      (λ a h. orKept-ways (Sound C r) r a r′ idle (λ z. sound-kept r a h)) acts)
+      (λ a h. orKept-ways (Sound C r) r a r′ (λ z. idle) (λ z. sound-kept r a h)) acts)
       (λ f e l p. acts r′ _ (omega arith) (fixed-same (r′ .sc)) refl)
       (λ f e after says c.
       completes-leaves (λ (x : Replica) (y : List Act). Sound C r (done (movedAccept x (d .slot)) y)) r′ (place (r .sc) (d .slot)) (d .slot) after says c

@@ -1,12 +1,12 @@
 -- The ways that a log completion goes.
-use mathlib.Core.Path.{_≡_, refl, sym, subst}
+use mathlib.Core.Path.{_≡_, refl, sym, ap, subst, _∙_}
 use mathlib.Core.Bool.{true, false, not, _&&_}
 use mathlib.Core.List.{List, [], _++_}
 use Prim.Native.Nat.{ℕ, _≤_, _<_}
 use native.Mathlib.Omega.{arith}
 use lib.Dec.{ltb, leb, eqb}
-use borrow.Author.Tests.{ltb-false, leb-true, leb-false, eqb-true, not-false}
-use Rattle.base.specs.Pick.{pick, pick-cases, and-left, and-right}
+use borrow.Author.Tests.{ltb-true, ltb-false, leb-true, leb-false, le-leb, eqb-true, eq-eqb, not-false}
+use Rattle.base.specs.Pick.{pick, pick-both, pick-cases, and-left, and-right, and-make, clash}
 use Rattle.base.specs.Gather.{gather}
 use Rattle.members.specs.Sets.{countIn}
 use Rattle.actions.specs.Actions.{Act, saysActs}
@@ -23,10 +23,14 @@ use Rattle.replica.specs.declared.Done.{Done}
 use Rattle.replica.specs.Record.{Outcome, kept, noting, settled, withWindow, place, number, logEnd, slotAt, putSlot, sweep}
 use Rattle.replica.specs.Fit.{fit, ready}
 use Rattle.replica.specs.Messages.{orKept, replyOn}
-use Rattle.replica.specs.Durability.{ownReply, preparedDone, movedAccept, thenMoved, acceptedDone, passActs, noticeActs, passOn, passStop, committedDone, doneOn, loggedOn, loggedStep}
+use Rattle.replica.specs.Durability.{entryNumber, ownReply, preparedDone, movedAccept, thenMoved, acceptedDone, passActs, noticeActs, passOn, passStop, committedDone, doneOn, loggedOn, loggedStep}
 use Rattle.laws.specs.Leaves.{done, put-back, settled-silent}
 use Rattle.laws.specs.OfDecide.{commits, promises, reports, Acknowledges, decidePromised-ways, decideAccepted-ways}
-use Rattle.laws.specs.WaysMessages.{Keeps, ready-fit}
+use Rattle.laws.specs.WaysMessages.{KeepsFor, ready-fit}
+
+-- two kinds of entry are not one
+pub other-entry : {A : Type 0} (a b : Entry) → eqb (entryNumber a) (entryNumber b) ≡ false → a ≡ b → A
+other-entry a b n e = absurd (clash (eq-eqb _ _ (ap entryNumber e)) n)
 
 -- the replica with the size of its log, and the slot of the completion in it
 abbrev pub logged : Replica → Done → Replica
@@ -51,7 +55,7 @@ pub record OwnReply (r : Replica) (s : Slot) (slot : ℕ) : Type 0 where
 abbrev pub promiseActs : Scalars → Slot → ℕ → List Act
 promiseActs sc s slot = saysActs (promises sc s slot .says) (promises sc s slot .keys)
 
-preparedDone-ways : (P : Outcome → Type 0) (r : Replica) (i slot : ℕ) → P (kept 0 r)
+preparedDone-ways : (P : Outcome → Type 0) (r : Replica) (i slot : ℕ) → ((OwnReply r (slotAt (r .window) i) slot → ⊥) → P (kept 0 r))
     → (OwnReply r (slotAt (r .window) i) slot → P (replyOn r (r .sc .id) (ownReply (r .sc) (slotAt (r .window) i) slot)))
     → (leads (r .sc) ≡ false → slotAt (r .window) i .replica .present ≡ true → P (done r (promiseActs (r .sc) (slotAt (r .window) i) slot)))
     → P (preparedDone r i slot (slotAt (r .window) i))
@@ -60,8 +64,9 @@ preparedDone-ways P r i slot zero own told =
     let s : Slot = slotAt (r .window) i in
     pick-cases P (leads (r .sc))
     (λ a. pick-cases P (s .leader .present && leb slot (s .leader .endprep))
-    (λ b. own (record { leading = a; booked = and-left (s .leader .present) _ b; within = leb-true _ _ (and-right (s .leader .present) _ b) })) (λ b. zero))
-    (λ a. decidePromised-ways (λ (d : Decided). P (settled r (r .window) i slot d)) (r .sc) s slot (subst P (sym (settled-silent r i slot)) zero)
+    (λ b. own (record { leading = a; booked = and-left (s .leader .present) _ b; within = leb-true _ _ (and-right (s .leader .present) _ b) }))
+    (λ b. zero (λ o. clash (and-make (o .booked) (le-leb _ _ (o .within))) b)))
+    (λ a. decidePromised-ways (λ (d : Decided). P (settled r (r .window) i slot d)) (r .sc) s slot (subst P (sym (settled-silent r i slot)) (zero (λ o. clash (o .leading) a)))
     (λ b. subst (λ (w : Window). P (done (withWindow r (r .sc) w) (promiseActs (r .sc) s slot))) (sym (put-back (r .window) i)) (told a b)))
 
 -- an AcceptData entry: what it makes of the replica before accept_bar moves, and what it says
@@ -92,6 +97,12 @@ acceptedDone-ways P r i slot six on =
     (λ a b. subst (λ (w : Window). P (done (movedAccept (withWindow r (r .sc) w) slot) (saysActs (reports (r .sc) s slot .says) (reports (r .sc) s slot .keys))))
     (sym (put-back (r .window) i)) (on _ _ (completes-report a b)))
 
+-- accept_bar stays or moves, and nothing else
+pub moved-ways : (P : Replica → Type 0) (r : Replica) (slot : ℕ) → P r
+    → ((bar : ℕ) → P (withWindow r (withBars (r .sc) bar (r .sc .«commit_bar») (r .sc .«exec_bar»)) (r .window))) → P (movedAccept r slot)
+unfolding movedAccept
+moved-ways P r slot p q = pick-both P (not (eqb slot (r .sc .«accept_bar»))) p (q _)
+
 -- a CommitSlot entry at commit_bar: the bar passes the committed slots
 abbrev pub passFrom : Replica → ℕ
 passFrom r = place (r .sc) (r .sc .«commit_bar»)
@@ -110,7 +121,8 @@ committedDone-ways P r slot zero on =
     pick-cases P (not (eqb slot (r .sc .«commit_bar»))) (λ a. zero) (λ a. on (eqb-true _ _ (not-false _ a)))
 
 module _ (P : Outcome → Type 0) (r : Replica) (n : ℕ) (d : Done) where
-  pub loggedStep-ways : Keeps P r → (Logs r d → P (done (logged r d) []))
+  pub loggedStep-ways : KeepsFor (d .slot < r .sc .start) P r
+      → (Logs r d → (d .entry ≡ PrepareBal → OwnReply (logged r d) (loggedAt r d) (d .slot) → ⊥) → P (done (logged r d) []))
       → (Logs r d → d .entry ≡ PrepareBal → OwnReply (logged r d) (loggedAt r d) (d .slot)
       → P (orKept r (replyOn (logged r d) (logged r d .sc .id) (ownReply (logged r d .sc) (loggedAt r d) (d .slot)))))
       → (Logs r d → d .entry ≡ PrepareBal → leads (logged r d .sc) ≡ false → loggedAt r d .replica .present ≡ true
@@ -121,16 +133,16 @@ module _ (P : Outcome → Type 0) (r : Replica) (n : ℕ) (d : Done) where
       → P (loggedStep r n d)
   unfolding loggedStep
   loggedStep-ways k idle own told moved pass =
-      pick-cases P (not (ready r n)) (λ a. k 1 (omega arith))
-      (λ a. pick-cases P (ltb (d .slot) (r .sc .start)) (λ b. k 0 (omega arith))
-      (λ b. pick-cases P (leb (logEnd r) (d .slot)) (λ c. k 4 (omega arith))
-      (λ c. pick-cases P (ltb (d .size) (r .sc .«wal_offset»)) (λ e. k 6 (omega arith))
+      pick-cases P (not (ready r n)) (λ a. k 1 (omega arith) (λ z. absurd (omega arith)))
+      (λ a. pick-cases P (ltb (d .slot) (r .sc .start)) (λ b. k 0 (omega arith) (λ z. ltb-true _ _ b))
+      (λ b. pick-cases P (leb (logEnd r) (d .slot)) (λ c. k 4 (omega arith) (λ z. absurd (omega arith)))
+      (λ c. pick-cases P (ltb (d .size) (r .sc .«wal_offset»)) (λ e. k 6 (omega arith) (λ z. absurd (omega arith)))
       (λ e.
       go (record { fits = ready-fit r n (not-false _ a); low = ltb-false _ _ b; high = leb-false _ _ c; size = ltb-false _ _ e }) (d .entry) refl))))
     where
       go : Logs r d → (e : Entry) → d .entry ≡ e → P (orKept r (doneOn (logged r d) (place (r .sc) (d .slot)) (d .slot) e))
       go f PrepareBal e =
-          preparedDone-ways (λ (o : Outcome). P (orKept r o)) (logged r d) (place (r .sc) (d .slot)) (d .slot) (idle f) (own f e) (told f e)
+          preparedDone-ways (λ (o : Outcome). P (orKept r o)) (logged r d) (place (r .sc) (d .slot)) (d .slot) (λ n. idle f (λ z. n)) (own f e) (told f e)
       go f AcceptData e =
-          acceptedDone-ways (λ (o : Outcome). P (orKept r o)) (logged r d) (place (r .sc) (d .slot)) (d .slot) (k 6 (omega arith)) (moved f e)
-      go f CommitSlot e = committedDone-ways (λ (o : Outcome). P (orKept r o)) (logged r d) (d .slot) (idle f) (pass f e)
+          acceptedDone-ways (λ (o : Outcome). P (orKept r o)) (logged r d) (place (r .sc) (d .slot)) (d .slot) (k 6 (omega arith) (λ z. absurd (omega arith))) (moved f e)
+      go f CommitSlot e = committedDone-ways (λ (o : Outcome). P (orKept r o)) (logged r d) (d .slot) (idle f (λ z. other-entry CommitSlot PrepareBal refl (sym e ∙ z))) (pass f e)

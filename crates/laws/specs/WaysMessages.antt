@@ -32,6 +32,10 @@ use Rattle.laws.specs.OfDecide.{accepts, commits, Acknowledges, decideAc
 abbrev pub Keeps : (Outcome → Type 0) → Replica → Type 0
 Keeps P r = (a : ℕ) → a ≤ 11 → P (kept a r)
 
+-- the same, told why a call is ignored
+abbrev pub KeepsFor : Type 0 → (Outcome → Type 0) → Replica → Type 0
+KeepsFor Why P r = (a : ℕ) → a ≤ 11 → (a ≡ 0 → Why) → P (kept a r)
+
 -- the sender is another member
 pub record Peer (sc : Scalars) (peer : ℕ) : Type 0 where
   pub member : peer < sc .group

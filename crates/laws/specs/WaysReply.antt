@@ -2,6 +2,7 @@
 use mathlib.Core.Path.{_≡_, refl}
 use mathlib.Core.Bool.{Bool, true, false, not, _&&_, _||_}
 use mathlib.Core.List.{List, _++_}
+use mathlib.Core.Logic.{_⊎_, inl, inr}
 use Prim.Native.Nat.{ℕ, _+_, _≤_, _<_}
 use native.Mathlib.Omega.{arith}
 use lib.Dec.{ltb, leb, eqb}
@@ -28,7 +29,7 @@ use Rattle.replica.specs.Fit.{fit, ready}
 use Rattle.replica.specs.Messages.{appended, appendActs, enterActs, tabled, countedOn, votedOn, repliedOn, inRange, orKept, replyOn, cleanReply, prepareReplyStep}
 use Rattle.laws.specs.Leaves.{done, keysAfter, withKeys, noting-ways, noting-refused}
 use Rattle.laws.specs.OfDecide.{Hears, decideCount-ways}
-use Rattle.laws.specs.WaysMessages.{Keeps, Peer, peer-facts, ready-fit}
+use Rattle.laws.specs.WaysMessages.{KeepsFor, Peer, peer-facts, ready-fit}
 
 -- "a voted value replaces only on a strictly larger ballot"
 abbrev pub adoptsVote : Slot → Reply → Bool
@@ -110,7 +111,12 @@ pub record Answers (r : Replica) (m : Reply) : Type 0 where
   pub high : m .slot < r .sc .start + 64
   pub booked : slotAt (r .window) (place (r .sc) (m .trigger)) .leader .present ≡ true
 
+-- why one is ignored: it is at another ballot, or its trigger has no leader's bookkeeping
+abbrev pub Unheard : Replica → Reply → Type 0
+Unheard r m = (m .ballot ≡ r .sc .«bal_prep_sent» → ⊥) ⊎ (slotAt (r .window) (place (r .sc) (m .trigger)) .leader .present ≡ false)
+
 pub record Heard (r : Replica) (peer : ℕ) (m : Reply) : Type 0 where
+  pub waits : awaitsPrepare (replySlot r m) (m .ballot) ≡ true
   pub status : replySlot r m .status ≡ 1
   pub hears : Hears (tabledSc r peer m) (replySlot r m) (m .ballot)
   pub kept-book : (m .voted && not (replySlot r m .leader .present)) ≡ false
@@ -153,7 +159,7 @@ module _ (P : Outcome → Type 0) (r : Replica) (peer : ℕ) (m : Reply) where
       (λ e. decideVote-heard (λ (d : Decided). P (orKept r (votedOn r′ w i j peer m acts d))) (r′ .sc) s m six
       (λ h k.
       let facts : (t && overfull (r .keys) b) ≡ false → Heard r peer m =
-      λ q. record { status = eqb-true _ _ (and-left (eqb (s .status) 1) _ (not-false _ e)); hears = h; kept-book = k; room = q } in
+      λ q. record { waits = not-false _ e; status = eqb-true _ _ (and-left (eqb (s .status) 1) _ (not-false _ e)); hears = h; kept-book = k; room = q } in
       pick-cases (λ (o : Outcome). P (orKept r (noting r′ t (m .slot) b o))) (not (eqb (m .slot) (m .endprep)))
       (λ u. noting-ways (λ (o : Outcome). P (orKept r o)) r′ t (m .slot) b _ _ refl seven (λ q. one (facts q) (eqb-false _ _ (not-true _ u))))
       (λ u. countedOn-ways (λ (o : Outcome). P (orKept r (noting r′ t (m .slot) b o))) r′ (heardWindow r m) j peer (m .ballot) acts
@@ -161,18 +167,18 @@ module _ (P : Outcome → Type 0) (r : Replica) (peer : ℕ) (m : Reply) where
       (λ v. noting-ways (λ (o : Outcome). P (orKept r o)) r′ t (m .slot) b _ _ refl seven (λ q. less (facts q) (eqb-true _ _ (not-false _ u)) v))
       (λ v x. noting-ways (λ (o : Outcome). P (orKept r o)) r′ t (m .slot) b _ _ refl seven (λ q. full (facts q) (eqb-true _ _ (not-false _ u)) v x)))))
 
-  pub replyOn-ways : Keeps P r → (Answers r m → awaitsPrepare (replySlot r m) (m .ballot) ≡ false → P (tabledOnly r peer m))
+  pub replyOn-ways : KeepsFor (Unheard r m) P r → (Answers r m → awaitsPrepare (replySlot r m) (m .ballot) ≡ false → P (tabledOnly r peer m))
       → (Answers r m → Heard r peer m → (m .slot ≡ m .endprep → ⊥) → P (heard r peer m))
       → (Answers r m → Heard r peer m → m .slot ≡ m .endprep → isFull r peer m ≡ false → P (counted r peer m))
       → (Answers r m → Heard r peer m → m .slot ≡ m .endprep → isFull r peer m ≡ true → tabledSc r peer m .«bal_prepared» ≤ m .ballot → P (entered r peer m))
       → P (replyOn r peer m)
   unfolding replyOn
   replyOn-ways k only one less full =
-      pick-cases P (not (eqb (m .ballot) (r .sc .«bal_prep_sent»))) (λ a. k 0 (omega arith))
-      (λ a. pick-cases P (not (leads (r .sc))) (λ b. k 4 (omega arith))
-      (λ b. pick-cases P (not (inRange r m)) (λ c. k 6 (omega arith))
-      (λ c. pick-cases P (not (slotAt (r .window) (place (r .sc) (m .trigger)) .leader .present)) (λ d. k 0 (omega arith))
-      (λ d. pick-cases P (leb (r .sc .start + 64) (m .slot)) (λ e. k 5 (omega arith))
+      pick-cases P (not (eqb (m .ballot) (r .sc .«bal_prep_sent»))) (λ a. k 0 (omega arith) (λ z. inl (eqb-false _ _ (not-true _ a))))
+      (λ a. pick-cases P (not (leads (r .sc))) (λ b. refuse 4 (omega arith) (λ z. omega arith))
+      (λ b. pick-cases P (not (inRange r m)) (λ c. refuse 6 (omega arith) (λ z. omega arith))
+      (λ c. pick-cases P (not (slotAt (r .window) (place (r .sc) (m .trigger)) .leader .present)) (λ d. k 0 (omega arith) (λ z. inr (not-true _ d)))
+      (λ d. pick-cases P (leb (r .sc .start + 64) (m .slot)) (λ e. refuse 5 (omega arith) (λ z. omega arith))
       (λ e.
       let g = not-false (inRange r m) c in
       let h = and-right (leb (m .trigger) (m .slot)) _ g in
@@ -188,7 +194,10 @@ module _ (P : Outcome → Type 0) (r : Replica) (peer : ℕ) (m : Reply) where
         high = leb-false _ _ e;
         booked = not-false _ d;
       } in
-      replied-ways (k 6 (omega arith)) (k 7 (omega arith)) (only f) (one f) (less f) (full f))))))
+      replied-ways (refuse 6 (omega arith) (λ z. omega arith)) (refuse 7 (omega arith) (λ z. omega arith)) (only f) (one f) (less f) (full f))))))
+    where
+      refuse : (a : ℕ) → a ≤ 11 → (a ≡ 0 → ⊥) → P (kept a r)
+      refuse a h n = k a h (λ z. absurd (n z))
 
 -- a reply from another member: its vote is a batch, and its unused keys are dropped
 pub record FromPeer (r : Replica) (peer : ℕ) (m : Reply) : Type 0 where
@@ -197,12 +206,12 @@ pub record FromPeer (r : Replica) (peer : ℕ) (m : Reply) : Type 0 where
   pub batch : (m .voted && not (isBatch (m .vote .batch .id) (m .vote .batch .count))) ≡ false
   pub low : r .sc .start ≤ m .slot
 
-pub prepareReplyStep-ways : (P : Outcome → Type 0) (r : Replica) (n peer : ℕ) (m : Reply) → Keeps P r
+pub prepareReplyStep-ways : (P : Outcome → Type 0) (r : Replica) (n peer : ℕ) (m : Reply) → KeepsFor (m .slot < r .sc .start) P r
     → (FromPeer r peer m → P (replyOn r peer (cleanReply m))) → P (prepareReplyStep r n peer m)
 unfolding prepareReplyStep
 prepareReplyStep-ways P r n peer m k on =
-    pick-cases P (not (ready r n)) (λ a. k 1 (omega arith))
-    (λ a. pick-cases P (not (isPeer (r .sc) peer)) (λ b. k 2 (omega arith))
-    (λ b. pick-cases P (m .voted && not (isBatch (m .vote .batch .id) (m .vote .batch .count))) (λ c. k 10 (omega arith))
-    (λ c. pick-cases P (ltb (m .slot) (r .sc .start)) (λ d. k 0 (omega arith))
+    pick-cases P (not (ready r n)) (λ a. k 1 (omega arith) (λ z. absurd (omega arith)))
+    (λ a. pick-cases P (not (isPeer (r .sc) peer)) (λ b. k 2 (omega arith) (λ z. absurd (omega arith)))
+    (λ b. pick-cases P (m .voted && not (isBatch (m .vote .batch .id) (m .vote .batch .count))) (λ c. k 10 (omega arith) (λ z. absurd (omega arith)))
+    (λ c. pick-cases P (ltb (m .slot) (r .sc .start)) (λ d. k 0 (omega arith) (λ z. ltb-true _ _ d))
     (λ d. on (record { fits = ready-fit r n (not-false _ a); peer-is = peer-facts (r .sc) peer (not-false _ b); batch = c; low = ltb-false _ _ d })))))

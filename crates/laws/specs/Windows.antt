@@ -7,7 +7,7 @@ use lib.Dec.{ltb, leb}
 use lib.ListN.{length, length-set}
 use lib.Seq.{getD-set-same, getD-set-other}
 use borrow.Author.Tests.{ltb-true, ltb-false, leb-true, leb-false}
-use Rattle.base.specs.Pick.{pick-cases, pick-both, larger, larger-below, tests}
+use Rattle.base.specs.Pick.{pick-cases, pick-both, larger-below, tests}
 use Rattle.base.specs.Over.{over, over-at, over-before, over-after, length-over}
 use Rattle.base.specs.Find.{last-below}
 use Rattle.slots.specs.declared.Slot.{Slot}
@@ -43,12 +43,6 @@ module _ (w : Window) (n : ℕ) where
 
   pub grown-long : size (grown w n) ≡ size w
   grown-long = grown-ways (λ (x : Window). size x ≡ size w) (λ h. refl) (λ h. length-over (λ i s. nullSlot) noSlot (w .len) n (w .slots))
-
-  pub grown-len : grown w n .len ≡ larger (w .len) n
-  grown-len =
-      grown-ways (λ (x : Window). x .len ≡ larger (w .len) n)
-      (λ h. pick-cases (λ (x : ℕ). w .len ≡ x) (ltb (w .len) n) (λ t. omega (arith, tests)) (λ t. refl))
-      (λ h. pick-cases (λ (x : ℕ). n ≡ x) (ltb (w .len) n) (λ t. refl) (λ t. omega (arith, tests)))
 
   pub grown-low : w .len ≤ grown w n .len
   grown-low = grown-ways (λ (x : Window). w .len ≤ x .len) (λ h. le-refl _) (λ h. omega arith)
@@ -101,10 +95,6 @@ module _ (r : Replica) (j i : ℕ) where
   pub appended-long : size (appended r j i) ≡ size (r .window)
   unfolding appended
   appended-long = length-over (λ k s. appendedAs) noSlot (r .window .len) (i + 1) (r .window .slots)
-
-  pub appended-len : appended r j i .len ≡ larger (r .window .len) (i + 1)
-  unfolding appended
-  appended-len = refl
 
   pub appended-low : r .window .len ≤ appended r j i .len
   unfolding appended

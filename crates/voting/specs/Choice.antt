@@ -1,7 +1,7 @@
 -- The proposer's choice: the batch with which a leader enters Accept is that of the largest voted ballot among the replies that arrived for
 -- the slot while it was Preparing at this ballot, else what the slot held.
 use mathlib.Core.Path.{_≡_, refl, sym, ap, subst, _∙_}
-use mathlib.Core.Bool.{not, _&&_}
+use mathlib.Core.Bool.{_&&_}
 use mathlib.Core.List.{List, [], _∷_}
 use Prim.Native.Nat.{ℕ, _+_, _-_, _≤_, _<_}
 use native.Mathlib.Omega.{arith}
@@ -13,25 +13,27 @@ use Rattle.members.specs.Laws.{next-given, next-larger}
 use Rattle.slots.specs.declared.Vote.{Vote}
 use Rattle.slots.specs.declared.Slot.{Slot}
 use Rattle.slots.specs.Slots.{newBook, redoneSlot, withState, withLeader, withExternal, committed, executed, preparing}
-use Rattle.decide.specs.Scalars.{leads}
 use Rattle.replica.specs.declared.Replica.{Replica}
 use Rattle.replica.specs.declared.Reply.{Reply}
-use Rattle.replica.specs.declared.Entry.{Entry}
-use Rattle.replica.specs.declared.Entry.the-variants.{PrepareBal, AcceptData, CommitSlot as CommitEntry}
-use Rattle.replica.specs.Record.{place, number, sweep, grown}
+use Rattle.replica.specs.declared.Done.{Done}
+use Rattle.replica.specs.declared.Entry.the-variants.{PrepareBal}
+use Rattle.replica.specs.Record.{place}
 use Rattle.replica.specs.Messages.{cleanReply}
-use Rattle.replica.specs.Leadership.{leadOn, lastOpen}
-use Rattle.replica.specs.Step.{Call, callPrepare, callPrepareReply, callAccept, callAcceptReply, callCommitNotice, callTimeout, callLogged, callOffer, callExecuted, callOpenRead, callReadReply, step}
+use Rattle.replica.specs.Leadership.{firstOpen}
+use Rattle.replica.specs.Step.{Call, callPrepareReply, callTimeout, callLogged, step}
+use Rattle.laws.specs.OfFit.{fit-facts}
+use Rattle.laws.specs.Windows.{size, grown-long, grown-most}
+use Rattle.laws.specs.ByPlace.{atPlace, sweep-cases, grown-at, at-past}
+use Rattle.laws.specs.WaysLeadership.{leadWindow, leadTrigger, leadEnd, leadFrom, led, Leads, timeoutStep-ways}
+use Rattle.laws.specs.WaysDurability.{logged}
 use Rattle.voting.specs.Paper.{Choice}
-use Rattle.voting.specs.Windows.{atPlace, sweep-cases, whole-grown, grown-most, grown-at, at-past}
 use Rattle.voting.specs.History.{Lent, told, play}
 use Rattle.voting.specs.Claims.{Claim, of}
-use Rattle.voting.specs.Asking.{firstPlace, StepsUp, timeout-way}
-use Rattle.voting.specs.Logging.{afterLog, ownAnswer, ownBook}
+use Rattle.voting.specs.Logging.{ownAnswer, ownBook}
 use Rattle.voting.specs.Promises.{step-core}
-use Rattle.voting.specs.Reached.{ready-fits, Good, good-step}
+use Rattle.voting.specs.Reached.{Good, good-step}
 use Rattle.voting.specs.Heard.{heldBy, heldAt, best, arrives, brings, heard, heardIn, Steady, Reign, best-append, best-choice}
-use Rattle.voting.specs.Held.{held-call}
+use Rattle.voting.specs.Held.{heard-ways, held-call}
 
 -- while self leads at one ballot, what a slot holds changes only by replies that arrive for it, to the largest
 pub held-step : (r : Replica) (c : Lent) (s : ℕ) → Good (r .sc) (r .window) → r .sc .start ≤ s → Steady r c s → heldAt (told r c .replica) s ≡ best (heldAt r s) (heard r c s)
@@ -57,27 +59,15 @@ brings-some r m s a =
     (λ t. tt)
 
 heard-some : (r : Replica) (room : ℕ) (c : Call) (s : ℕ) → All (λ (v : Vote). 0 < v .ballot) (heard r (record { room = room; call = c }) s)
-heard-some r room (callPrepareReply peer m) s = brings-some r (cleanReply m) s (step r room (callPrepareReply peer m) .answer)
-heard-some r room (callLogged d) s = own (d .entry) refl
-  where
-    own : (e : Entry) → d .entry ≡ e → All (λ (v : Vote). 0 < v .ballot) (heard r (record { room = room; call = callLogged (record { entry = e; slot = d .slot; size = d .size }) }) s)
-    own PrepareBal e =
-        pick-both (All (λ (v : Vote). 0 < v .ballot)) (ownBook r (record { entry = PrepareBal; slot = d .slot; size = d .size }))
-        {a = brings (afterLog r (record { entry = PrepareBal; slot = d .slot; size = d .size })) (ownAnswer r (record { entry = PrepareBal; slot = d .slot; size = d .size })) s (step r room (callLogged (record { entry = PrepareBal; slot = d .slot; size = d .size })) .answer)}
-        {b = []}
-        (brings-some (afterLog r (record { entry = PrepareBal; slot = d .slot; size = d .size })) (ownAnswer r (record { entry = PrepareBal; slot = d .slot; size = d .size })) s (step r room (callLogged (record { entry = PrepareBal; slot = d .slot; size = d .size })) .answer))
-        tt
-    own AcceptData e = tt
-    own CommitEntry e = tt
-heard-some r room (callPrepare peer trigger ballot) s = tt
-heard-some r room (callAccept peer slot ballot b) s = tt
-heard-some r room (callAcceptReply peer slot ballot) s = tt
-heard-some r room (callCommitNotice peer ballot bar) s = tt
-heard-some r room (callTimeout source) s = tt
-heard-some r room (callOffer b) s = tt
-heard-some r room (callExecuted slot) s = tt
-heard-some r room (callOpenRead id count keys) s = tt
-heard-some r room (callReadReply peer id fromLeader reply) s = tt
+heard-some r room c s =
+    heard-ways r room s (λ k v. All (λ (x : Vote). 0 < x .ballot) v) (λ peer m. brings-some r (cleanReply m) s (step r room (callPrepareReply peer m) .answer))
+    (λ slot size.
+    let d : Done = record { entry = PrepareBal; slot = slot; size = size } in
+    pick-both (All (λ (v : Vote). 0 < v .ballot)) (ownBook r d)
+    {a = brings (logged r d) (ownAnswer r d) s (step r room (callLogged d) .answer)}
+    {b = []}
+    (brings-some (logged r d) (ownAnswer r d) s (step r room (callLogged d) .answer)) tt)
+    (λ k n. tt) c
 
 heard-all : (r : Replica) (h : List Lent) (s : ℕ) → All (λ (v : Vote). 0 < v .ballot) (heardIn r h s)
 heard-all r [] s = tt
@@ -115,24 +105,23 @@ pub step-up-unheard : (r : Replica) (room source s : ℕ) → Good (r .sc) (r .w
     → atPlace (step r room (callTimeout source) .replica .window) (place (r .sc) s) .ballot ≡ step r room (callTimeout source) .replica .sc .«bal_prep_sent»
     → (atPlace (step r room (callTimeout source) .replica .window) (place (r .sc) s) .leader .«prepare_max_bal» ≡ 0)
     × (atPlace (step r room (callTimeout source) .replica .window) (place (r .sc) s) .batch ≡ heldAt r s .batch)
-unfolding of leadOn
+unfolding of
 step-up-unheard r room source s g st =
-    timeout-way (begins r (place (r .sc) s)) r room source (λ a n. absurd (n refl)) (λ b f n. fresh b f)
+    timeoutStep-ways (of (begins r (place (r .sc) s))) r room source (λ a l n. absurd (n refl)) (λ b f n. fresh b f)
   where
-    fresh : (b : ℕ) → StepsUp r room source b
-        → atPlace (sweep (λ i x. redoneSlot b (newBook (number (r .sc) (firstPlace r)) (number (r .sc) (lastOpen (r .window)))) x) (place (r .sc) (r .sc .«exec_bar»)) (grown (r .window) (firstPlace r + 1) .len) (grown (r .window) (firstPlace r + 1))) (place (r .sc) s) .ballot ≡ b
-        → (atPlace (sweep (λ i x. redoneSlot b (newBook (number (r .sc) (firstPlace r)) (number (r .sc) (lastOpen (r .window)))) x) (place (r .sc) (r .sc .«exec_bar»)) (grown (r .window) (firstPlace r + 1) .len) (grown (r .window) (firstPlace r + 1))) (place (r .sc) s) .leader .«prepare_max_bal» ≡ 0)
-        × (atPlace (sweep (λ i x. redoneSlot b (newBook (number (r .sc) (firstPlace r)) (number (r .sc) (lastOpen (r .window)))) x) (place (r .sc) (r .sc .«exec_bar»)) (grown (r .window) (firstPlace r + 1) .len) (grown (r .window) (firstPlace r + 1))) (place (r .sc) s) .batch ≡ atPlace (r .window) (place (r .sc) s) .batch)
+    fresh : (b : ℕ) → Leads r source b → atPlace (led r b .replica .window) (place (r .sc) s) .ballot ≡ b
+        → (atPlace (led r b .replica .window) (place (r .sc) s) .leader .«prepare_max_bal» ≡ 0)
+        × (atPlace (led r b .replica .window) (place (r .sc) s) .batch ≡ atPlace (r .window) (place (r .sc) s) .batch)
     fresh b f =
         let k = next-given (r .sc .«bal_max_seen») (r .sc .id) b (f .next) in
         let up : r .sc .«bal_max_seen» < b = omega (arith, k .made, next-larger (r .sc .«bal_max_seen») (r .sc .id)) in
-        let at = grown-at (r .window) (firstPlace r + 1) (place (r .sc) s) (g .whole) (omega (arith, f .within)) in
-        let low : atPlace (grown (r .window) (firstPlace r + 1)) (place (r .sc) s) .ballot ≤ r .sc .«bal_max_seen» = omega (arith, ap (λ (x : Slot). x .ballot) at, g .slots (place (r .sc) s)) in
-        sweep-cases
-        (λ (x : Slot). x .ballot ≡ b → (x .leader .«prepare_max_bal» ≡ 0) × (x .batch ≡ atPlace (r .window) (place (r .sc) s) .batch))
-        (λ i x. redoneSlot b (newBook (number (r .sc) (firstPlace r)) (number (r .sc) (lastOpen (r .window)))) x) (place (r .sc) (r .sc .«exec_bar»)) (grown (r .window) (firstPlace r + 1) .len) (grown (r .window) (firstPlace r + 1)) (place (r .sc) s)
-        (whole-grown (r .window) (firstPlace r + 1) (g .whole)) (grown-most (r .window) (firstPlace r + 1) 64 (ready-fits r room (f .fits) .len) (omega (arith, f .within)))
+        let at = grown-at (r .window) (firstOpen (r .window) + 1) (place (r .sc) s) (omega (arith, f .room)) in
+        let low : atPlace (leadWindow r) (place (r .sc) s) .ballot ≤ r .sc .«bal_max_seen» = omega (arith, ap (λ (x : Slot). x .ballot) at, g .slots (place (r .sc) s)) in
+        let long : leadWindow r .len ≤ size (leadWindow r) =
+        omega (arith, grown-long (r .window) (firstOpen (r .window) + 1), g .whole, grown-most (r .window) (firstOpen (r .window) + 1) 64 (fit-facts r (f .fits) .numbers .window) (omega (arith, f .room))) in
+        sweep-cases (λ i x. redoneSlot b (newBook (leadTrigger r) (leadEnd r)) x) (leadFrom r) (leadWindow r .len) (leadWindow r)
+        (λ (x : Slot). x .ballot ≡ b → (x .leader .«prepare_max_bal» ≡ 0) × (x .batch ≡ atPlace (r .window) (place (r .sc) s) .batch)) (place (r .sc) s) long
         (λ x y z e.
-        let q = redone-begins b (r .sc .«bal_max_seen») (number (r .sc) (firstPlace r)) (number (r .sc) (lastOpen (r .window))) (atPlace (grown (r .window) (firstPlace r + 1)) (place (r .sc) s)) up low e in
+        let q = redone-begins b (r .sc .«bal_max_seen») (leadTrigger r) (leadEnd r) (atPlace (leadWindow r) (place (r .sc) s)) up low e in
         (q .0, q .1 ∙ ap (λ (x : Slot). x .batch) at))
-        (λ e. absurd (omega arith))
+        (λ out e. absurd (omega arith))

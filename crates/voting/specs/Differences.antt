@@ -4,7 +4,7 @@ use mathlib.Core.Bool.{Bool, true, false, not, _&&_}
 use mathlib.Core.List.{List, [], _∷_, _++_, List·Memᴰ·head, List·Memᴰ·tail, Memᴰ·append-right}
 use Prim.Native.Nat.{ℕ, _+_, _≤_, _<_}
 use native.Mathlib.Nat.{le-of-eq}
-use lib.Dec.{T, ltb, eqb}
+use lib.Dec.{T, eqb}
 use lib.ListN.{replicate}
 use borrow.Author.Tests.{le-ltb, eq-eqb, le-leb, leb-true, ltb-true, lt-ltb}
 use Rattle.base.specs.Scan.{scan}
@@ -21,24 +21,23 @@ use Rattle.decide.specs.Decide.{decideAccept, decideAcceptReply, decideVote, de
 use Rattle.replica.specs.declared.Replica.{Replica}
 use Rattle.replica.specs.declared.Reply.{Reply}
 use Rattle.replica.specs.declared.Entry.the-variants.{PrepareBal, AcceptData}
-use Rattle.replica.specs.Record.{kept, newReplica, slotAt, grown, noting, settled, number, place}
+use Rattle.replica.specs.Record.{kept, newReplica, slotAt, grown, noting, settled, number}
 use Rattle.replica.specs.Fit.{ready, fit, fitScalars, fitSlots, fitReads}
 use Rattle.replica.specs.Messages.{prepareOn, prepareStep, lastUsed, appended, countedOn, votedOn, repliedOn, replyOn, prepareReplyStep, acceptStep, acceptReplyStep, clean}
 use Rattle.replica.specs.Leadership.{firstOpen, lastOpen, leadOn, stepUp, timeoutStep, redoActs}
 use Rattle.replica.specs.Durability.{preparedDone, movedAccept, acceptedDone, passOn, passStop, committedDone, loggedOn, loggedStep}
 use Rattle.replica.specs.Added.{offerStep}
 use Rattle.replica.specs.Step.{Call, callPrepare, callPrepareReply, callAccept, callAcceptReply, callTimeout, callLogged, callOffer, step}
+use Rattle.laws.specs.WaysLeadership.{leadWindow, leadTrigger, leadFrom, timeoutStep-ways}
 use Rattle.voting.specs.Paper.{answersPrepare, mayAccept}
 use Rattle.voting.specs.Windows.{Whole}
-use Rattle.voting.specs.History.{told}
-use Rattle.voting.specs.Promises.{PrepareActs, skip, take-it, yes-not, AcceptActs}
+use Rattle.voting.specs.Promises.{PrepareActs, AcceptActs}
 use Rattle.voting.specs.Reached.{Good, reached-prepare-iff, reached-accept-iff}
 use Rattle.voting.specs.Votes.{voteOf, vote-step}
 use Rattle.base.specs.Among.{_∈_}
 use Rattle.base.specs.Gather.{gather}
 use Rattle.actions.specs.declared.Action.the-variants.{Prepare}
 use Rattle.voting.specs.Claims.{Claim, of}
-use Rattle.voting.specs.Asking.{firstPlace, timeout-way}
 use mathlib.Core.Logic.{_⊎_, inl, inr, _↔_}
 use Rattle.base.specs.Pick.{same?}
 use native.Mathlib.Omega.{arith}
@@ -91,13 +90,13 @@ asks r a sc w acts = (sc .«bal_prep_sent» ≡ r .sc .«bal_prep_sent» → ⊥
 
 pub prepare-at-once : (r : Replica) (room source : ℕ) → (step r room (callTimeout source) .replica .sc .«bal_prep_sent» ≡ r .sc .«bal_prep_sent» → ⊥)
     → (trigger : ℕ) × (bare (Prepare (record { trigger = trigger; ballot = step r room (callTimeout source) .replica .sc .«bal_prep_sent» })) ∈ step r room (callTimeout source) .actions)
-unfolding of leadOn
+unfolding of
 prepare-at-once r room source =
-    timeout-way (asks r) r room source (λ a n. absurd (n refl))
+    timeoutStep-ways (of (asks r)) r room source (λ a l n. absurd (n refl))
     (λ b f n. (
-      number (r .sc) (firstPlace r),
+      leadTrigger r,
       List·Memᴰ·tail (List·Memᴰ·tail
-          (Memᴰ·append-right (gather (λ i. redoActs (number (r .sc) i) b (slotAt (grown (r .window) (firstPlace r + 1)) i)) (place (r .sc) (r .sc .«exec_bar»)) (grown (r .window) (firstPlace r + 1) .len)) (List·Memᴰ·head refl))),
+          (Memᴰ·append-right (gather (λ i. redoActs (number (r .sc) i) b (slotAt (leadWindow r) i)) (leadFrom r) (leadWindow r .len)) (List·Memᴰ·head refl))),
     ))
 
 -- ── a deposed leader answers 4 to a late reply at its own ballot, at any slot from start on, and changes nothing ──
@@ -106,12 +105,7 @@ pub deposed-4 : (r : Replica) (room peer : ℕ) (m : Reply) → ready r room ≡
     → step r room (callPrepareReply peer m) ≡ kept 4 r
 unfolding prepareReplyStep replyOn
 deposed-4 r room peer m f p v l b d =
-    skip _ (not (ready r room)) _ _ (yes-not f)
-    (skip _ (not (isPeer (r .sc) peer)) _ _ (yes-not p)
-    (skip _ (m .voted && not (isBatch (m .vote .batch .id) (m .vote .batch .count))) _ _ v
-    (skip _ (ltb (m .slot) (r .sc .start)) _ _ (le-ltb (m .slot) (r .sc .start) l)
-    (skip _ (not (eqb (m .ballot) (r .sc .«bal_prep_sent»))) _ _ (yes-not (eq-eqb (m .ballot) (r .sc .«bal_prep_sent») b))
-    (take-it (not (leads (r .sc))) _ _ (rw d))))))
+    rw (f, p, v, le-ltb (m .slot) (r .sc .start) l, eq-eqb (m .ballot) (r .sc .«bal_prep_sent») b, d)
 
 -- ── runs ──
 -- what is looked at after a call: the slots present, the largest ballot seen, the believed leader, bal_prepared; the status, batch and vote

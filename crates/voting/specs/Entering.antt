@@ -18,17 +18,24 @@ use Rattle.decide.specs.Decide.{proposal}
 use Rattle.replica.specs.declared.Window.{Window}
 use Rattle.replica.specs.declared.Replica.{Replica}
 use Rattle.replica.specs.declared.Reply.{Reply}
+use Rattle.replica.specs.declared.Done.{Done}
 use Rattle.replica.specs.Record.{place, number, slotAt}
 use Rattle.replica.specs.Messages.{promise, cleanReply, enterActs}
 use Rattle.replica.specs.Step.{callPrepareReply, callLogged, step}
-use Rattle.voting.specs.Windows.{atPlace, Whole, whole-put, whole-appended, sweep-in, at-here, appended-most}
+use Rattle.laws.specs.OfFit.{fit-facts}
+use Rattle.laws.specs.Windows.{appended-most}
+use Rattle.laws.specs.Counts.{counted-long}
+use Rattle.laws.specs.ByPlace.{atPlace, sweep-at, at-here}
+use Rattle.laws.specs.WaysReply.{replyWindow, heardWindow, countedWindow, Answers}
+use Rattle.laws.specs.WaysDurability.{Logs, logged, other-entry}
+use Rattle.voting.specs.Windows.{Whole, whole-put}
 use Rattle.voting.specs.Claims.{Claim, of}
-use Rattle.voting.specs.Replying.{Replies, widened, weighedWindow, countedWindow, enteredWindow, entersActs, replyActs, ReplyWays, prepare-reply-way}
-use Rattle.voting.specs.Reached.{ready-fits, Good, good-play}
+use Rattle.voting.specs.Replying.{enteredWindow, entersActs, replyActs, ReplyWays, prepare-reply-way}
+use Rattle.voting.specs.Reached.{Good, good-play}
 use Rattle.voting.specs.Quorums.{kindOf}
-use Rattle.replica.specs.declared.Entry.the-variants.{PrepareBal}
-use Rattle.replica.specs.Durability.{entryNumber, loggedOn}
-use Rattle.voting.specs.Logging.{Logs, LogWays, afterLog, ownAnswer, logged-way}
+use Rattle.replica.specs.declared.Entry.the-variants.{PrepareBal, AcceptData, CommitSlot as CommitEntry}
+use Rattle.replica.specs.Durability.{loggedOn}
+use Rattle.voting.specs.Logging.{LogWays, ownAnswer, logged-way}
 use Rattle.voting.specs.History.{Lent, told, play}
 use Rattle.voting.specs.Promises.{step-core, play-grows}
 use Rattle.voting.specs.Paper.{Choice}
@@ -57,19 +64,14 @@ module _ (r : Replica) (peer : ℕ) (m : Reply) (h : Whole (r .window)) (n : r .
       go : (i : ℕ) × (r .window .len ≤ i) × (i < place (r .sc) (m .slot) + 1) × (x ∈ (promise (number (r .sc) i) (r .sc .«bal_prep_sent») ∷ [])) → Entered r (m .ballot) w x
       go (i, lo, hi, o) = other-enters r (m .ballot) w _ x (λ z. omega arith) o k
 
-  whole-counted : Whole (countedWindow r peer m)
-  whole-counted =
-      whole-put (weighedWindow r m) (place (r .sc) (m .trigger)) _
-      (whole-put (widened r m) (place (r .sc) (m .slot)) _ (whole-appended r (place (r .sc) (m .trigger)) (place (r .sc) (m .slot)) h))
-
   -- the slot at place i, Preparing before, is Accepting after, with its batch
-  enters-at : Replies r m → (i : ℕ) → place (r .sc) (m .trigger) ≤ i → i < countedWindow r peer m .len → slotAt (countedWindow r peer m) i .status ≡ preparing
+  enters-at : Answers r m → (i : ℕ) → place (r .sc) (m .trigger) ≤ i → i < countedWindow r peer m .len → slotAt (countedWindow r peer m) i .status ≡ preparing
       → (x : Act) → x ≡ act (Accept (proposal (number (r .sc) i) (m .ballot) (slotAt (countedWindow r peer m) i .batch))) (slotAt (countedWindow r peer m) i .batch .keys)
       → Entered r (m .ballot) (enteredWindow r peer m) x
   enters-at f i lo hi s x e =
-      let u = appended-most r (place (r .sc) (m .trigger)) (place (r .sc) (m .slot)) 64 n (let y = f .within in omega arith) in
+      let u = appended-most r (place (r .sc) (m .trigger)) (place (r .sc) (m .slot)) 64 n (let x = f .low in let y = f .from in let z = f .high in omega arith) in
       let z : atPlace (enteredWindow r peer m) i ≡ withState (slotAt (countedWindow r peer m) i) (slotAt (countedWindow r peer m) i .ballot) accepting =
-      sweep-in (λ k v. enteredSlot v) (place (r .sc) (m .trigger)) (countedWindow r peer m .len) (countedWindow r peer m) i whole-counted u lo hi hi
+      sweep-at (λ k v. enteredSlot v) (place (r .sc) (m .trigger)) (countedWindow r peer m .len) (countedWindow r peer m) i (let z = counted-long r peer m in omega arith) lo hi hi
       ∙ ap enteredSlot (at-here (countedWindow r peer m) i hi)
       ∙ ap (λ (t : Bool). pick t (withState (slotAt (countedWindow r peer m) i) (slotAt (countedWindow r peer m) i .ballot) accepting) (slotAt (countedWindow r peer m) i)) (eq-eqb _ _ s) in (
         i,
@@ -78,7 +80,7 @@ module _ (r : Replica) (peer : ℕ) (m : Reply) (h : Whole (r .window)) (n : r .
         e ∙ ap (λ (v : Slot). act (Accept (proposal (number (r .sc) i) (m .ballot) (v .batch))) (v .batch .keys)) (sym z),
       )
 
-  enter-one : Replies r m → (x : Act) (i : ℕ) → place (r .sc) (m .trigger) ≤ i → i < countedWindow r peer m .len
+  enter-one : Answers r m → (x : Act) (i : ℕ) → place (r .sc) (m .trigger) ≤ i → i < countedWindow r peer m .len
       → x ∈ enterActs (number (r .sc) i) (m .ballot) (slotAt (countedWindow r peer m) i) → kindOf x ≡ 6 → Entered r (m .ballot) (enteredWindow r peer m) x
   enter-one f x i lo hi =
       pick-cases (λ (l : List Act). x ∈ l → kindOf x ≡ 6 → Entered r (m .ballot) (enteredWindow r peer m) x) (eqb (slotAt (countedWindow r peer m) i .status) preparing)
@@ -95,13 +97,13 @@ module _ (r : Replica) (peer : ℕ) (m : Reply) (h : Whole (r .window)) (n : r .
   reply-enters : ReplyWays (enters r (m .ballot)) r peer m
   reply-enters =
       record {
-        passed = λ f t x o k. appends (widened r m) x o k;
-        weighed = λ f w x o k. appends (weighedWindow r m) x o k;
-        counted = λ f w z x o k. appends (countedWindow r peer m) x o k;
-        entered = λ f w z q x o k. both f x k (List·Memᴰ·append-cases (replyActs r m) o);
+        passed = λ f t x o k. appends (replyWindow r m) x o k;
+        weighed = λ f w x o k. appends (heardWindow r m) x o k;
+        counted = λ f w x o k. appends (countedWindow r peer m) x o k;
+        entered = λ f w x o k. both f x k (List·Memᴰ·append-cases (replyActs r m) o);
       }
     where
-      both : Replies r m → (x : Act) → kindOf x ≡ 6 → (x ∈ replyActs r m) ⊎ (x ∈ entersActs r peer m) → Entered r (m .ballot) (enteredWindow r peer m) x
+      both : Answers r m → (x : Act) → kindOf x ≡ 6 → (x ∈ replyActs r m) ⊎ (x ∈ entersActs r peer m) → Entered r (m .ballot) (enteredWindow r peer m) x
       both f x k (inl o) = appends (enteredWindow r peer m) x o k
       both f x k (inr o) = go (gather-in (λ i. enterActs (number (r .sc) i) (m .ballot) (slotAt (countedWindow r peer m) i)) (place (r .sc) (m .trigger)) (countedWindow r peer m .len) o)
         where
@@ -114,24 +116,23 @@ pub reply-enters-with : (r : Replica) (room peer : ℕ) (m : Reply) → Whole (r
     → Entered r (m .ballot) (step r room (callPrepareReply peer m) .replica .window) x
 unfolding of
 reply-enters-with r room peer m h =
-    prepare-reply-way (enters r (m .ballot)) r room peer m (λ a. silent-enters r (m .ballot) (r .window))
-    (λ a b c. reply-enters r peer (cleanReply m) h (ready-fits r room a .len))
+    prepare-reply-way (enters r (m .ballot)) r room peer m (λ a l u. silent-enters r (m .ballot) (r .window))
+    (λ f. reply-enters r peer (cleanReply m) h (fit-facts r (f .fits) .numbers .window))
 
-own-enters : (r : Replica) (room slot size : ℕ) → Whole (r .window) → Logs r room (record { entry = PrepareBal; slot = slot; size = size })
+own-enters : (r : Replica) (slot size : ℕ) → Whole (r .window) → Logs r (record { entry = PrepareBal; slot = slot; size = size })
     → LogWays (enters r (ownAnswer r (record { entry = PrepareBal; slot = slot; size = size }) .ballot)) r (record { entry = PrepareBal; slot = slot; size = size })
 unfolding of loggedOn
-own-enters r room slot size h f =
+own-enters r slot size h f =
+    let d : Done = record { entry = PrepareBal; slot = slot; size = size } in
     let b : ℕ = ownAnswer r (record { entry = PrepareBal; slot = slot; size = size }) .ballot in
     record {
-      only = silent-enters r b _;
-      own = λ e t u.
-          reply-enters (afterLog r (record { entry = PrepareBal; slot = slot; size = size })) (r .sc .id) (ownAnswer r (record { entry = PrepareBal; slot = slot; size = size }))
-          (whole-put (r .window) (place (r .sc) slot) _ h) (ready-fits r room (f .fits) .len);
-      promised = λ e t u x o k. other-enters r b _ _ x (λ z. omega arith) o k;
-      acks = λ e t u. absurd (let z : _≡_ {A = ℕ} 1 2 = ap entryNumber e in omega arith);
-      still = silent-enters r b _;
-      answered = λ e t u. absurd (let z : _≡_ {A = ℕ} 1 2 = ap entryNumber e in omega arith);
-      passes = λ e. absurd (let z : _≡_ {A = ℕ} 1 3 = ap entryNumber e in omega arith);
+      only = λ u. silent-enters r b _;
+      own = λ e o. reply-enters (logged r d) (r .sc .id) (ownAnswer r d) (whole-put (r .window) (place (r .sc) slot) _ h) (fit-facts r (f .fits) .numbers .window);
+      promised = λ e n x o k. other-enters r b _ _ x (λ z. omega arith) o k;
+      acked = other-entry PrepareBal AcceptData refl;
+      commits = other-entry PrepareBal AcceptData refl;
+      answered = other-entry PrepareBal AcceptData refl;
+      passes = other-entry PrepareBal CommitEntry refl;
     }
 
 -- and for a leader's own reply, at the end of its PrepareBal entry
@@ -140,9 +141,9 @@ pub own-enters-with : (r : Replica) (room slot size : ℕ) → Whole (r .window)
     → Entered r (ownAnswer r (record { entry = PrepareBal; slot = slot; size = size }) .ballot) (step r room (callLogged (record { entry = PrepareBal; slot = slot; size = size })) .replica .window) x
 unfolding of
 own-enters-with r room slot size h =
-    logged-way (enters r (ownAnswer r (record { entry = PrepareBal; slot = slot; size = size }) .ballot)) r room (record { entry = PrepareBal; slot = slot; size = size })
-    (λ a. silent-enters r (ownAnswer r (record { entry = PrepareBal; slot = slot; size = size }) .ballot) (r .window))
-    (λ f. own-enters r room slot size h f)
+    logged-way (enters r (ownAnswer r (record { entry = PrepareBal; slot = slot; size = size }) .ballot)) r (record { entry = PrepareBal; slot = slot; size = size }) room
+    (λ a l u. silent-enters r (ownAnswer r (record { entry = PrepareBal; slot = slot; size = size }) .ballot) (r .window))
+    (λ f. own-enters r slot size h f)
 
 -- ── the whole sentence ──
 play-append : (r : Replica) (h : List Lent) (c : Lent) → play r (h ++ (c ∷ [])) ≡ told (play r h) c .replica

@@ -1,6 +1,6 @@
 -- What a leader hears of a slot by replies, and the largest of what it hears.
 use mathlib.Core.Path.{_≡_, refl, ap}
-use mathlib.Core.Bool.{Bool, true, false, not, _&&_}
+use mathlib.Core.Bool.{Bool, true, false, _&&_}
 use mathlib.Core.List.{List, [], _∷_, _++_, List·Memᴰ·head, List·Memᴰ·tail}
 use mathlib.Core.Logic.{_⊎_, inl, inr}
 use Prim.Native.Nat.{ℕ, _≤_, _<_}
@@ -21,12 +21,12 @@ use Rattle.replica.specs.declared.Entry.the-variants.{PrepareBal, AcceptData, C
 use Rattle.replica.specs.Record.{place, slotAt}
 use Rattle.replica.specs.Messages.{cleanReply}
 use Rattle.replica.specs.Step.{Call, callPrepare, callPrepareReply, callAccept, callAcceptReply, callCommitNotice, callTimeout, callLogged, callOffer, callExecuted, callOpenRead, callReadReply}
+use Rattle.laws.specs.ByPlace.{atPlace}
+use Rattle.laws.specs.WaysReply.{replySlot}
+use Rattle.laws.specs.WaysDurability.{logged}
 use Rattle.voting.specs.Paper.{Highest, Choice}
-use Rattle.voting.specs.Windows.{atPlace}
 use Rattle.voting.specs.History.{Lent, told}
-use Rattle.voting.specs.Claims.{of}
-use Rattle.voting.specs.Replying.{replySlot}
-use Rattle.voting.specs.Logging.{afterLog, ownAnswer, ownBook}
+use Rattle.voting.specs.Logging.{ownAnswer, ownBook}
 
 -- what a slot holds for its leader: the batch, and the largest voted ballot that a reply brought (prepare_max_bal)
 abbrev pub heldBy : Slot → Vote
@@ -56,7 +56,7 @@ abbrev pub heard : Replica → Lent → ℕ → List Vote
 heard r c s = by (c .call)
   where
     own : Done → Entry → List Vote
-    own d PrepareBal = pick (ownBook r d) (brings (afterLog r d) (ownAnswer r d) s (told r c .answer)) []
+    own d PrepareBal = pick (ownBook r d) (brings (logged r d) (ownAnswer r d) s (told r c .answer)) []
     own d AcceptData = []
     own d CommitEntry = []
 

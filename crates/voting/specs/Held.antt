@@ -1,43 +1,48 @@
 -- While self leads at one ballot, what a slot holds changes only by replies that arrive for it: one call of each kind.
 use mathlib.Core.Path.{_≡_, refl, sym, ap, subst, _∙_}
-use mathlib.Core.Bool.{Bool, true, false, not, _&&_, _||_}
+use mathlib.Core.Bool.{Bool, true, false, not, _&&_}
 use mathlib.Core.List.{List, [], _∷_}
 use mathlib.Core.Logic.{_⊎_, inl, inr}
 use Prim.Native.Nat.{ℕ, _+_, _≤_, _<_}
 use native.Mathlib.Omega.{arith}
-use lib.Dec.{ltb, leb, eqb}
-use borrow.Author.Tests.{ltb-false, leb-true, eqb-true, eq-eqb, le-ltb, not-true}
-use Rattle.base.specs.Pick.{pick, pick-both, pick-cases, decide, same?, clash, and-both, and-make}
+use lib.Dec.{ltb, eqb}
+use borrow.Author.Tests.{ltb-false, leb-true, eqb-true, eq-eqb, le-leb, le-ltb}
+use Rattle.base.specs.Pick.{pick, pick-cases, decide, same?, clash, and-both, and-make}
 use Rattle.members.specs.Ballots.{owns}
 use Rattle.members.specs.Laws.{owners-same, next-given, next-larger}
 use Rattle.batch.specs.declared.Batch.{Batch}
-use Rattle.actions.specs.Actions.{Act, saysActs}
+use Rattle.actions.specs.Actions.{Act}
 use Rattle.slots.specs.declared.Vote.{Vote}
 use Rattle.slots.specs.declared.Slot.{Slot}
-use Rattle.slots.specs.Slots.{preparedSlot, enteredSlot, markedSlot, passedSlot, executedSlot, loggedSlot, adoptedSlot, withOffset, withState, committed, preparing}
+use Rattle.slots.specs.Slots.{preparedSlot, enteredSlot, markedSlot, passedSlot, loggedSlot, adoptedSlot}
 use Rattle.decide.specs.declared.Scalars.{Scalars}
-use Rattle.decide.specs.declared.Decided.{Decided}
 use Rattle.decide.specs.Scalars.{leads, followed, withBallots}
-use Rattle.decide.specs.Decide.{decideAccept, awaitsPrepare}
+use Rattle.decide.specs.Decide.{decideOffer, awaitsPrepare}
 use Rattle.replica.specs.declared.Window.{Window}
 use Rattle.replica.specs.declared.Replica.{Replica}
 use Rattle.replica.specs.declared.Reply.{Reply}
 use Rattle.replica.specs.declared.Done.{Done}
 use Rattle.replica.specs.declared.Entry.{Entry}
 use Rattle.replica.specs.declared.Entry.the-variants.{PrepareBal, AcceptData, CommitSlot as CommitEntry}
-use Rattle.replica.specs.Record.{place, slotAt, putSlot, grown}
-use Rattle.replica.specs.Messages.{cleanReply, prepareTop, prepareBook}
-use Rattle.replica.specs.Leadership.{leadOn, markOn, markStop}
-use Rattle.replica.specs.Durability.{entryNumber, passOn, passStop, loggedOn}
+use Rattle.replica.specs.Record.{place, slotAt, putSlot}
+use Rattle.replica.specs.Messages.{cleanReply, prepareBook}
+use Rattle.replica.specs.Durability.{entryNumber, passStop, loggedOn}
+use Rattle.replica.specs.Added.{movedExec}
 use Rattle.replica.specs.Step.{Call, callPrepare, callPrepareReply, callAccept, callAcceptReply, callCommitNotice, callTimeout, callLogged, callOffer, callExecuted, callOpenRead, callReadReply, step}
-use Rattle.voting.specs.Windows.{atPlace, Whole, whole-put, whole-appended, put-keeps, put-same, put-other, sweep-keeps, grown-at, appended-at, appended-len, appended-most, at-here, at-past}
-use Rattle.voting.specs.Claims.{core, Claim, of, settled-way}
-use Rattle.voting.specs.Asking.{worked, prepare-way, Accepts, accept-way, filled, notice-way, timeout-way}
-use Rattle.voting.specs.Acking.{accept-reply-way, AckWays, ack-way}
-use Rattle.voting.specs.Replying.{Replies, widened, replySlot, weighedSlot, weighedWindow, countedWindow, Awaited, ReplyWays, Unheard, map-reply, prepare-reply-told}
-use Rattle.voting.specs.Logging.{afterLog, loggedAt, ownAnswer, ownBook, LogWays, logged-way, OwnWays, own-told}
-use Rattle.voting.specs.Adding.{Offers, offeredWindow, offer-way, executed-way, open-read-way, read-reply-way}
-use Rattle.voting.specs.Reached.{ready-fits, Good}
+use Rattle.laws.specs.OfFit.{fit-facts}
+use Rattle.laws.specs.Windows.{appended-long, appended-has, appended-most}
+use Rattle.laws.specs.ByPlace.{atPlace, put-keeps, put-at, put-elsewhere, sweep-keeps, grown-at, appended-cases, at-here, at-past}
+use Rattle.laws.specs.WaysMessages.{prepareWindow, prepareEnd, prepareStep-ways, Accepts, acceptStep-ways, acceptReplyStep-ways}
+use Rattle.laws.specs.WaysReply.{replyWindow, replySlot, heardSlot, heardWindow, countedWindow, Answers, Heard, Unheard}
+use Rattle.laws.specs.WaysLeadership.{timeoutStep-ways, markWindow, markFrom, markEnd, commitNoticeStep-ways}
+use Rattle.laws.specs.WaysDurability.{logged, loggedAt, OwnReply, passFrom, other-entry}
+use Rattle.laws.specs.WaysAdded.{offerWindow, offerStep-ways, executedStep-ways}
+use Rattle.voting.specs.Windows.{Whole, whole-put}
+use Rattle.voting.specs.Keeping.{entered-keeps, marked-keeps, passed-keeps, executed-keeps, logged-keeps}
+use Rattle.voting.specs.Claims.{core, Claim, of, open-read-way, read-reply-way}
+use Rattle.voting.specs.Replying.{ReplyWays, map-reply, prepare-reply-way}
+use Rattle.voting.specs.Logging.{ownAnswer, ownBook, LogWays, logged-way}
+use Rattle.voting.specs.Reached.{Good}
 use Rattle.voting.specs.Heard.{heldBy, heldAt, best, arrives, brings, heard, noOffer}
 
 -- ── one reply ──
@@ -72,125 +77,97 @@ weigh-best true held v = go (decide (ltb 0 (v .ballot)))
     go (inl t) = rw t
     go (inr t) = rw (t, le-ltb (held .ballot) (v .ballot) (let u = ltb-false 0 (v .ballot) t in omega arith))
 
-held-weighed : (m : Reply) (x : Slot) → heldBy (weighedSlot m x) ≡ pick (m .voted && ltb (heldBy x .ballot) (m .vote .ballot)) (m .vote) (heldBy x)
+held-weighed : (m : Reply) (x : Slot) → heldBy (heardSlot x m) ≡ pick (m .voted && ltb (heldBy x .ballot) (m .vote .ballot)) (m .vote) (heldBy x)
 held-weighed m x = go (m .voted && ltb (heldBy x .ballot) (m .vote .ballot))
   where
     go : (t : Bool) → heldBy (pick t (adoptedSlot (m .vote) x) x) ≡ pick t (m .vote) (heldBy x)
     go true = refl
     go false = refl
 
-held-entered : (s : Slot) → heldBy (enteredSlot s) ≡ heldBy s
-held-entered s = pick-both (λ (x : Slot). heldBy x ≡ heldBy s) (eqb (s .status) preparing) {a = withState s (s .ballot) 2} {b = s} refl refl
-
 module _ (r : Replica) (peer : ℕ) (m : Reply) (s : ℕ) (h : Whole (r .window)) (n : r .window .len ≤ 64) (l : r .sc .start ≤ s) where
-  wide-held : Replies r m → (i : ℕ) → heldBy (atPlace (widened r m) i) ≡ heldBy (atPlace (r .window) i)
+  wide-held : Answers r m → (i : ℕ) → heldBy (atPlace (replyWindow r m) i) ≡ heldBy (atPlace (r .window) i)
   wide-held f i =
-      ap heldBy (appended-at r (place (r .sc) (m .trigger)) (place (r .sc) (m .slot)) i h (let u = f .within in omega arith))
-      ∙ pick-cases (λ (x : Slot). heldBy x ≡ heldBy (atPlace (r .window) i)) (leb (r .window .len) i && leb i (place (r .sc) (m .slot)))
-      (λ t. ap heldBy (sym (at-past (r .window) i (leb-true _ _ (and-both (leb (r .window .len) i) _ t .0)))))
-      (λ t. refl)
+      appended-cases (λ (x : Slot). heldBy x ≡ heldBy (atPlace (r .window) i)) r (place (r .sc) (m .trigger)) (place (r .sc) (m .slot)) i (let u = f .high in let x = f .low in let y = f .from in omega arith)
+      (λ l. ap heldBy (sym (at-past (r .window) i l))) refl
 
-  arrives-here : Replies r m → Awaited r m → m .slot ≡ s → arrives r m s ≡ true
+  arrives-here : Answers r m → Heard r peer m → m .slot ≡ s → arrives r m s ≡ true
   arrives-here f w e = and-make (eq-eqb _ _ e) (and-make (f .leading) (and-make (eq-eqb _ _ (f .sent)) (and-make (f .booked) (w .waits))))
 
-  weighed-held : Replies r m → Awaited r m → heldBy (atPlace (weighedWindow r m) (place (r .sc) s)) ≡ best (heldAt r s) (brings r m s 0)
+  weighed-held : Answers r m → Heard r peer m → heldBy (atPlace (heardWindow r m) (place (r .sc) s)) ≡ best (heldAt r s) (brings r m s 0)
   weighed-held f w = go (same? (m .slot) s)
     where
-      go : (m .slot ≡ s) ⊎ (m .slot ≡ s → ⊥) → heldBy (atPlace (weighedWindow r m) (place (r .sc) s)) ≡ best (heldAt r s) (brings r m s 0)
+      go : (m .slot ≡ s) ⊎ (m .slot ≡ s → ⊥) → heldBy (atPlace (heardWindow r m) (place (r .sc) s)) ≡ best (heldAt r s) (brings r m s 0)
       go (inr d) =
-          ap heldBy (put-other (widened r m) (place (r .sc) (m .slot)) (place (r .sc) s) _ (λ z. d (let x = f .from in let y = f .low in omega arith))) ∙ wide-held f (place (r .sc) s)
+          ap heldBy (put-elsewhere (replyWindow r m) (place (r .sc) (m .slot)) _ (place (r .sc) s) (λ z. d (let x = f .low in let y = f .from in omega arith))) ∙ wide-held f (place (r .sc) s)
           ∙ sym (ap (best (heldAt r s)) (brings-none r m s 0 (λ z a. d (a .slot))))
       go (inl e) =
           let i : ℕ = place (r .sc) (m .slot) in
-          let k = appended-len r (place (r .sc) (m .trigger)) i in
-          let u = appended-most r (place (r .sc) (m .trigger)) i 64 n (let x = f .within in omega arith) in
-          let there : heldBy (replySlot r m) ≡ heldAt r s = ap heldBy (sym (at-here (widened r m) i (k .1))) ∙ wide-held f i ∙ ap (λ (x : ℕ). heldAt r x) e in
-          ap (λ (x : ℕ). heldBy (atPlace (weighedWindow r m) (place (r .sc) x))) (sym e)
-          ∙ ap heldBy (put-same (widened r m) i (weighedSlot m (replySlot r m)) (whole-appended r (place (r .sc) (m .trigger)) i h) (k .1) u)
+          let k = appended-has r (place (r .sc) (m .trigger)) i in
+          let u = appended-most r (place (r .sc) (m .trigger)) i 64 n (let x = f .high in let y = f .low in let z = f .from in omega arith) in
+          let there : heldBy (replySlot r m) ≡ heldAt r s = ap heldBy (sym (at-here (replyWindow r m) i k)) ∙ wide-held f i ∙ ap (λ (x : ℕ). heldAt r x) e in
+          ap (λ (x : ℕ). heldBy (atPlace (heardWindow r m) (place (r .sc) x))) (sym e)
+          ∙ ap heldBy (put-at (replyWindow r m) i (heardSlot (replySlot r m) m) k (let z = appended-long r (place (r .sc) (m .trigger)) i in omega arith))
           ∙ held-weighed m (replySlot r m)
           ∙ ap (λ (x : Vote). pick (m .voted && ltb (x .ballot) (m .vote .ballot)) (m .vote) x) there
           ∙ weigh-best (m .voted) (heldAt r s) (m .vote)
           ∙ ap (λ (t : Bool). best (heldAt r s) (pick (t && (true && (m .voted && ltb 0 (m .vote .ballot)))) (m .vote ∷ []) [])) (sym (arrives-here f w e))
 
-  counted-held : Replies r m → Awaited r m → heldBy (atPlace (countedWindow r peer m) (place (r .sc) s)) ≡ best (heldAt r s) (brings r m s 0)
-  counted-held f w = put-keeps heldBy (weighedWindow r m) (place (r .sc) (m .trigger)) (place (r .sc) s) _ refl ∙ weighed-held f w
+  counted-held : Answers r m → Heard r peer m → heldBy (atPlace (countedWindow r peer m) (place (r .sc) s)) ≡ best (heldAt r s) (brings r m s 0)
+  counted-held f w = put-keeps heldBy (heardWindow r m) (place (r .sc) (m .trigger)) (place (r .sc) s) _ refl ∙ weighed-held f w
 
   reply-hears : ReplyWays (hears r m s) r peer m
   reply-hears =
       record {
         passed = λ f t. wide-held f (place (r .sc) s) ∙ sym (ap (best (heldAt r s)) (brings-none r m s 0 (λ z a. clash (a .waits) t)));
         weighed = λ f w. weighed-held f w;
-        counted = λ f w z. counted-held f w;
-        entered = λ f w z q.
-            sweep-keeps heldBy (λ k x. enteredSlot x) (λ k x. held-entered x) (place (r .sc) (m .trigger)) (countedWindow r peer m .len) (countedWindow r peer m) (place (r .sc) s) ∙ counted-held f w;
+        counted = λ f w. counted-held f w;
+        entered = λ f w.
+            sweep-keeps heldBy (λ k x. enteredSlot x) (λ k x. entered-keeps heldBy (λ s n. refl) x) (place (r .sc) (m .trigger)) (countedWindow r peer m .len) (countedWindow r peer m) (place (r .sc) s) ∙ counted-held f w;
       }
 
 -- ── calls that bring no reply, while self leads on at one ballot ──
 abbrev holds : Replica → ℕ → Claim
 holds r s a sc w acts = leads sc ≡ true → sc .«bal_prep_sent» ≡ r .sc .«bal_prep_sent» → heldBy (atPlace w (place (r .sc) s)) ≡ heldAt r s
 
-held-redone : (s : Slot) → heldBy (executedSlot s) ≡ heldBy s
-held-redone s = pick-both (λ (x : Slot). heldBy x ≡ heldBy s) (eqb (s .status) committed) {a = withState s (s .ballot) 4} {b = s} refl refl
-
-held-marked : (s : Slot) → heldBy (markedSlot s) ≡ heldBy s
-held-marked s = pick-both (λ (x : Slot). heldBy x ≡ heldBy s) (leb committed (s .status)) {a = s} {b = withState s (s .ballot) 3} refl refl
-
-held-passed : (s : Slot) → heldBy (passedSlot s) ≡ heldBy s
-held-passed s = pick-both (λ (x : Slot). heldBy x ≡ heldBy s) (eqb (s .batch .id) 0) {a = withState s (s .ballot) 4} {b = s} refl refl
-
-held-logged : (offset : ℕ) (s : Slot) → heldBy (loggedSlot offset s) ≡ heldBy s
-held-logged offset s =
-    pick-both (λ (x : Slot). heldBy x ≡ heldBy s) (eqb (s .«wal_offset») 0 || ltb offset (s .«wal_offset»)) {a = withOffset s offset} {b = s} refl refl
-
-after-held : (r : Replica) (d : Done) (i : ℕ) → heldBy (atPlace (afterLog r d .window) i) ≡ heldBy (atPlace (r .window) i)
+after-held : (r : Replica) (d : Done) (i : ℕ) → heldBy (atPlace (logged r d .window) i) ≡ heldBy (atPlace (r .window) i)
 unfolding loggedOn
 after-held r d i =
     put-keeps heldBy (r .window) (place (r .sc) (d .slot)) i (loggedSlot (r .sc .«wal_offset») (slotAt (r .window) (place (r .sc) (d .slot))))
-    (held-logged (r .sc .«wal_offset») (slotAt (r .window) (place (r .sc) (d .slot))))
+    (logged-keeps heldBy (λ s n. refl) (r .sc .«wal_offset») (slotAt (r .window) (place (r .sc) (d .slot))))
 
 -- who leads can't take an Accept and lead on: its ballot would be owned by two, or another would lead
-no-accept : (r : Replica) (room peer slot ballot : ℕ) (b : Batch) → Good (r .sc) (r .window) → leads (r .sc) ≡ true → Accepts r room peer slot ballot b
+no-accept : (r : Replica) (peer slot ballot : ℕ) (b : Batch) → Good (r .sc) (r .window) → leads (r .sc) ≡ true → Accepts r peer slot ballot b
     → leads (core (followed (r .sc) peer ballot)) ≡ true → ⊥
-no-accept r room peer slot ballot b g l f =
+no-accept r peer slot ballot b g l f =
     pick-cases (λ (x : Scalars). leads (core x) ≡ true → ⊥) (ltb (r .sc .«bal_max_seen») ballot)
     {a = withBallots (r .sc) peer (r .sc .«bal_prep_sent») (r .sc .«bal_prepared») ballot}
     {b = r .sc}
-    (λ t e. clash e other)
+    (λ t e. f .peer-is .other (eqb-true peer (r .sc .id) e))
     (λ t e.
     let own = g .leading l in
-    let same : ballot ≡ r .sc .«bal_prep_sent» = (let x = ltb-false (r .sc .«bal_max_seen») ballot t in let y = f .largest in let z = own .0 in omega arith) in
-    clash (eq-eqb _ _ (owners-same ballot peer (r .sc .id) (f .owned) (subst (λ (x : ℕ). owns x (r .sc .id) ≡ true) (sym same) (own .1)))) other)
-  where
-    other : eqb peer (r .sc .id) ≡ false
-    other = not-true _ (and-both (ltb peer (r .sc .group)) _ (f .peers) .1)
-
-ack-holds : (r q : Replica) (i slot peer ballot s : ℕ) → heldBy (atPlace (q .window) (place (r .sc) s)) ≡ heldAt r s
-    → AckWays (holds r s) q (q .window) i slot peer ballot (slotAt (q .window) i)
-ack-holds r q i slot peer ballot s e =
-    record {
-      idle = λ x y. put-keeps heldBy (q .window) i (place (r .sc) s) _ refl ∙ e;
-      acked = λ a x y. put-keeps heldBy (q .window) i (place (r .sc) s) _ refl ∙ e;
-      commits = λ a k x y. put-keeps heldBy (q .window) i (place (r .sc) s) _ refl ∙ e;
-    }
+    let same : ballot ≡ r .sc .«bal_prep_sent» = (let x = ltb-false (r .sc .«bal_max_seen») ballot t in let y = f .seen in let z = own .0 in omega arith) in
+    f .peer-is .other (owners-same ballot peer (r .sc .id) (f .owned) (subst (λ (x : ℕ). owns x (r .sc .id) ≡ true) (sym same) (own .1))))
 
 -- a completion of another entry
 log-holds : (r : Replica) (d : Done) (s : ℕ) → (d .entry ≡ PrepareBal → ⊥) → LogWays (holds r s) r d
-unfolding of passOn
+unfolding of
 log-holds r d s n =
     let e = after-held r d (place (r .sc) s) in
+    let put : (x : Slot) → heldBy x ≡ heldBy (loggedAt r d) → heldBy (atPlace (putSlot (logged r d .window) (place (r .sc) (d .slot)) x) (place (r .sc) s)) ≡ heldAt r s =
+    λ x k. put-keeps heldBy (logged r d .window) (place (r .sc) (d .slot)) (place (r .sc) s) x k ∙ e in
     record {
-      only = λ x y. e;
-      own = λ z t u. absurd (n z);
-      promised = λ z t u. absurd (n z);
-      acks = λ z t u. ack-holds r (afterLog r d) (place (r .sc) (d .slot)) (d .slot) (r .sc .id) (loggedAt r d .ballot) s e;
-      still = λ x y. put-keeps heldBy (afterLog r d .window) (place (r .sc) (d .slot)) (place (r .sc) s) _ refl ∙ e;
-      answered = λ z t u x y. put-keeps heldBy (afterLog r d .window) (place (r .sc) (d .slot)) (place (r .sc) s) _ refl ∙ e;
+      only = λ u x y. e;
+      own = λ z o. absurd (n z);
+      promised = λ z t x y. e;
+      acked = λ z x y. put _ refl;
+      commits = λ z k q x y. put _ refl;
+      answered = λ z x y. e;
       passes = λ z x y.
-          sweep-keeps heldBy (λ k v. passedSlot v) (λ k v. held-passed v) (place (r .sc) (r .sc .«commit_bar»)) (passStop (afterLog r d)) (afterLog r d .window) (place (r .sc) s) ∙ e;
+          sweep-keeps heldBy (λ k v. passedSlot v) (λ k v. passed-keeps heldBy (λ s n. refl) v) (passFrom (logged r d)) (passStop (logged r d)) (logged r d .window) (place (r .sc) s) ∙ e;
     }
 
 -- a call that brings no reply
-abbrev noReply : Call → Bool
+abbrev pub noReply : Call → Bool
 noReply (callPrepareReply peer m) = false
 noReply (callLogged d) = not (eqb (entryNumber (d .entry)) 1)
 noReply (callOffer b) = true
@@ -205,55 +182,49 @@ noReply (callReadReply peer id fromLeader reply) = true
 
 step-holds : (r : Replica) (room : ℕ) (c : Call) (s : ℕ) → Good (r .sc) (r .window) → leads (r .sc) ≡ true → r .sc .start ≤ s
     → (place (r .sc) s < r .window .len) ⊎ (noOffer c ≡ true) → noReply c ≡ true → of (holds r s) (step r room c)
-unfolding of leadOn markOn decideAccept
-step-holds r room (callPrepareReply peer m) s g l st h n = absurd (clash n refl)
-step-holds r room (callLogged d) s g l st h n =
-    logged-way (holds r s) r room d (λ a x y. refl)
-    (λ f. log-holds r d s (λ e. clash n (ap (λ (x : Entry). not (eqb (entryNumber x) 1)) e)))
-step-holds r room (callPrepare peer trigger ballot) s g l st h n =
-    prepare-way (holds r s) r room peer trigger ballot (λ a x y. refl)
-    (λ f e x y. sweep-keeps heldBy (λ i v. preparedSlot ballot (prepareBook (r .sc) (worked r trigger) (place (r .sc) trigger) peer) v) (λ k v. refl) (place (r .sc) trigger) (prepareTop (worked r trigger) (place (r .sc) trigger) + 1) (worked r trigger) (place (r .sc) s)
-    ∙ ap heldBy (grown-at (r .window) (place (r .sc) trigger + 1) (place (r .sc) s) (g .whole) (omega (arith, f .within))))
-step-holds r room (callAccept peer slot ballot b) s g l st h n =
-    accept-way (holds r s) r room peer slot ballot b (λ a x y. refl)
-    (λ f. settled-way (holds r s) r (worked r slot) (place (r .sc) slot) slot _ (λ a x y. refl)
-    (pick-both
-    (λ (d : Decided). d .answer ≡ 0 → holds r s 0 (core (d .sc)) (putSlot (worked r slot) (place (r .sc) slot) (d .slot)) (saysActs (d .says) (d .keys)))
-    (ltb ballot (slotAt (worked r slot) (place (r .sc) slot) .ballot))
-    (λ e. absurd (omega arith)) (λ e x y. absurd (no-accept r room peer slot ballot b g l f x))))
-step-holds r room (callAcceptReply peer slot ballot) s g l st h n =
-    accept-reply-way (holds r s) r room peer slot ballot (λ a x y. refl)
-    (λ f. ack-way (holds r s) r (r .window) (place (r .sc) slot) slot peer ballot (slotAt (r .window) (place (r .sc) slot)) (λ a x y. refl) (ack-holds r r (place (r .sc) slot) slot peer ballot s refl))
-step-holds r room (callCommitNotice peer ballot bar) s g l st h n =
-    notice-way (holds r s) r room peer ballot bar (λ a x y. refl)
-    (λ f x y. sweep-keeps heldBy (λ i v. markedSlot v) (λ k v. held-marked v) (place (r .sc) (r .sc .«commit_bar»)) (markStop (filled r bar) ballot (place (r .sc) (r .sc .«commit_bar»)) (place (r .sc) bar)) (filled r bar) (place (r .sc) s)
-    ∙ ap heldBy (grown-at (r .window) (place (r .sc) bar) (place (r .sc) s) (g .whole) (omega (arith, f .within))))
-step-holds r room (callTimeout source) s g l st h n =
-    timeout-way (holds r s) r room source (λ a x y. refl)
-    (λ b f x y. absurd
-    (let k = next-given (r .sc .«bal_max_seen») (r .sc .id) b (f .next) in
-    let z = g .sent in
-    omega (arith, k .made, next-larger (r .sc .«bal_max_seen») (r .sc .id))))
-step-holds r room (callOffer b) s g l st h n =
-    offer-way (holds r s) r room b (λ a x y. refl) (λ f x y. offered f h)
+unfolding of movedExec decideOffer
+step-holds r room c s g l st = go c
   where
-    offered : Offers r room b → (place (r .sc) s < r .window .len) ⊎ (noOffer (callOffer b) ≡ true) → heldBy (atPlace (offeredWindow r b) (place (r .sc) s)) ≡ heldAt r s
-    offered f (inr e) = absurd (clash e refl)
-    offered f (inl u) =
-        ap heldBy (put-other (grown (r .window) (r .window .len + 1)) (r .window .len) (place (r .sc) s) _ (λ z. omega arith)
-        ∙ grown-at (r .window) (r .window .len + 1) (place (r .sc) s) (g .whole) (omega (arith, f .within)))
-step-holds r room (callExecuted slot) s g l st h n =
-    executed-way (holds r s) r room slot (λ a x y. refl)
-    (λ f x y. put-keeps heldBy (r .window) (place (r .sc) slot) (place (r .sc) s) (executedSlot (slotAt (r .window) (place (r .sc) slot))) (held-redone (slotAt (r .window) (place (r .sc) slot))))
-step-holds r room (callOpenRead id count keys) s g l st h n = open-read-way (holds r s) r room id count keys (λ a x y. refl)
-step-holds r room (callReadReply peer id fromLeader reply) s g l st h n = read-reply-way (holds r s) r room peer id fromLeader reply (λ a x y. refl) (λ k i v x y. refl)
+    go : (c : Call) → (place (r .sc) s < r .window .len) ⊎ (noOffer c ≡ true) → noReply c ≡ true → of (holds r s) (step r room c)
+    go (callPrepareReply peer m) h n = absurd (clash n refl)
+    go (callLogged d) h n =
+        logged-way (holds r s) r d room (λ a z u x y. refl) (λ f. log-holds r d s (λ e. clash n (ap (λ (x : Entry). not (eqb (entryNumber x) 1)) e)))
+    go (callPrepare peer trigger ballot) h n =
+        prepareStep-ways (of (holds r s)) r room peer trigger ballot (λ a z x y. refl)
+        (λ f x y. sweep-keeps heldBy (λ i v. preparedSlot ballot (prepareBook (r .sc) (prepareWindow r trigger) (place (r .sc) trigger) peer) v) (λ k v. refl) (place (r .sc) trigger) (prepareEnd r trigger) (prepareWindow r trigger) (place (r .sc) s)
+        ∙ ap heldBy (grown-at (r .window) (place (r .sc) trigger + 1) (place (r .sc) s) (omega (arith, f .low, f .high))))
+    go (callAccept peer slot ballot b) h n =
+        acceptStep-ways (of (holds r s)) r room peer slot ballot b (λ a z x y. refl) (λ f x y. absurd (no-accept r peer slot ballot b g l f x))
+    go (callAcceptReply peer slot ballot) h n =
+        acceptReplyStep-ways (of (holds r s)) r room peer slot ballot (λ a z x y. refl) (λ f q x y. put-keeps heldBy (r .window) (place (r .sc) slot) (place (r .sc) s) _ refl)
+        (λ f q x y. put-keeps heldBy (r .window) (place (r .sc) slot) (place (r .sc) s) _ refl)
+    go (callCommitNotice peer ballot bar) h n =
+        commitNoticeStep-ways (of (holds r s)) r room peer ballot bar (λ a z x y. refl)
+        (λ f x y. sweep-keeps heldBy (λ i v. markedSlot v) (λ k v. marked-keeps heldBy (λ s n. refl) v) (markFrom r) (markEnd r ballot bar) (markWindow r bar) (place (r .sc) s)
+        ∙ ap heldBy (grown-at (r .window) (place (r .sc) bar) (place (r .sc) s) (omega (arith, f .high))))
+    go (callTimeout source) h n =
+        timeoutStep-ways (of (holds r s)) r room source (λ a z x y. refl)
+        (λ b f x y. absurd
+        (let k = next-given (r .sc .«bal_max_seen») (r .sc .id) b (f .next) in
+        let z = g .sent in
+        omega (arith, k .made, next-larger (r .sc .«bal_max_seen») (r .sc .id))))
+    go (callOffer b) (inr e) n = absurd (clash e refl)
+    go (callOffer b) (inl u) n =
+        offerStep-ways (of (holds r s)) r room b (λ a z x y. refl)
+        (λ f x y. ap heldBy (put-elsewhere (offerWindow r) (r .window .len) _ (place (r .sc) s) (λ z. omega arith)
+        ∙ grown-at (r .window) (r .window .len + 1) (place (r .sc) s) (omega (arith, f .room))))
+    go (callExecuted slot) h n =
+        executedStep-ways (of (holds r s)) r room slot (λ a z x y. refl)
+        (λ f x y. put-keeps heldBy (r .window) (place (r .sc) slot) (place (r .sc) s) _ (executed-keeps heldBy (λ s n. refl) (slotAt (r .window) (place (r .sc) slot))))
+    go (callOpenRead id count keys) h n = open-read-way (holds r s) r room (λ a acts x y. refl) id count keys
+    go (callReadReply peer id fromLeader reply) h n = read-reply-way (holds r s) r room (λ a acts x y. refl) peer id fromLeader reply
 
 -- ── a reply that arrives ──
 step-hears : (r : Replica) (room peer : ℕ) (m : Reply) (s : ℕ) → Good (r .sc) (r .window) → r .sc .start ≤ s → of (hears r (cleanReply m) s) (step r room (callPrepareReply peer m))
 unfolding of
 step-hears r room peer m s g l =
-    prepare-reply-told (hears r (cleanReply m) s) r room peer m (λ a u. sym (ap (best (heldAt r s)) (brings-none r (cleanReply m) s a (λ z x. deaf x (u z)))))
-    (λ a b c. reply-hears r peer (cleanReply m) s (g .whole) (ready-fits r room a .len) l)
+    prepare-reply-way (hears r (cleanReply m) s) r room peer m (λ a _ u. sym (ap (best (heldAt r s)) (brings-none r (cleanReply m) s a (λ z x. deaf x (u z)))))
+    (λ f. reply-hears r peer (cleanReply m) s (g .whole) (fit-facts r (f .fits) .numbers .window) l)
   where
     deaf : Arrived r (cleanReply m) s → (m .slot < r .sc .start) ⊎ Unheard r (cleanReply m) → ⊥
     deaf x (inl u) = let z = x .slot in omega arith
@@ -266,78 +237,82 @@ ownHears r slot size s a sc w acts =
     heldBy (atPlace w (place (r .sc) s))
     ≡ best (heldAt r s)
     (pick (ownBook r (record { entry = PrepareBal; slot = slot; size = size }))
-    (brings (afterLog r (record { entry = PrepareBal; slot = slot; size = size })) (ownAnswer r (record { entry = PrepareBal; slot = slot; size = size })) s a) [])
+    (brings (logged r (record { entry = PrepareBal; slot = slot; size = size })) (ownAnswer r (record { entry = PrepareBal; slot = slot; size = size })) s a) [])
 
 module _ (r : Replica) (room slot size s : ℕ) (g : Good (r .sc) (r .window)) (l : r .sc .start ≤ s) where
   abbrev mine : Done
   mine = record { entry = PrepareBal; slot = slot; size = size }
 
-  none-own : (a : ℕ) → (a ≡ 0 → Arrived (afterLog r mine) (ownAnswer r mine) s → ⊥) → pick (ownBook r mine) (brings (afterLog r mine) (ownAnswer r mine) s a) [] ≡ []
-  none-own a n = pick-cases (λ (x : List Vote). x ≡ []) (ownBook r mine) (λ t. brings-none (afterLog r mine) (ownAnswer r mine) s a n) (λ t. refl)
+  none-own : (a : ℕ) → (ownBook r mine ≡ true → a ≡ 0 → Arrived (logged r mine) (ownAnswer r mine) s → ⊥) → pick (ownBook r mine) (brings (logged r mine) (ownAnswer r mine) s a) [] ≡ []
+  none-own a n = pick-cases (λ (x : List Vote). x ≡ []) (ownBook r mine) (λ t. brings-none (logged r mine) (ownAnswer r mine) s a (n t)) (λ t. refl)
 
-  own-turn : ownBook r mine ≡ true → (a : ℕ) (sc : Scalars) (w : Window) (acts : List Act) → hears (afterLog r mine) (ownAnswer r mine) s a sc w acts → ownHears r slot size s a sc w acts
+  own-turn : ownBook r mine ≡ true → (a : ℕ) (sc : Scalars) (w : Window) (acts : List Act) → hears (logged r mine) (ownAnswer r mine) s a sc w acts → ownHears r slot size s a sc w acts
   unfolding loggedOn
   own-turn u a sc w acts h =
-      h ∙ ap (λ (v : Vote). best v (brings (afterLog r mine) (ownAnswer r mine) s a)) (after-held r mine (place (r .sc) s))
-      ∙ ap (λ (t : Bool). best (heldAt r s) (pick t (brings (afterLog r mine) (ownAnswer r mine) s a) [])) (sym u)
+      h ∙ ap (λ (v : Vote). best v (brings (logged r mine) (ownAnswer r mine) s a)) (after-held r mine (place (r .sc) s))
+      ∙ ap (λ (t : Bool). best (heldAt r s) (pick t (brings (logged r mine) (ownAnswer r mine) s a) [])) (sym u)
 
-  after-whole : Whole (afterLog r mine .window)
+  after-whole : Whole (logged r mine .window)
   unfolding loggedOn
   after-whole = whole-put (r .window) (place (r .sc) slot) _ (g .whole)
 
-  after-len : r .window .len ≤ 64 → afterLog r mine .window .len ≤ 64
-  unfolding loggedOn
-  after-len h = h
-
-  after-start : r .sc .start ≤ s → afterLog r mine .sc .start ≤ s
-  unfolding loggedOn
-  after-start h = h
-
-  own-ways : OwnWays (ownHears r slot size s) r room slot size
-  own-ways =
-      record {
-        refuses = λ a u. sym (ap (best (heldAt r s)) (none-own a (λ z x. below (u z) x)));
-        unbooked = λ u. after-held r mine (place (r .sc) s) ∙ ap (λ (t : Bool). best (heldAt r s) (pick t (brings (afterLog r mine) (ownAnswer r mine) s 0) [])) (sym u);
-        unheard = λ u d. after-held r mine (place (r .sc) s) ∙ sym (ap (best (heldAt r s)) (none-own 0 (λ z x. deaf x d)));
-        replies = λ f u.
-            map-reply (hears (afterLog r mine) (ownAnswer r mine) s) (ownHears r slot size s) (afterLog r mine) (r .sc .id) (ownAnswer r mine) (own-turn u)
-            (reply-hears (afterLog r mine) (r .sc .id) (ownAnswer r mine) s after-whole (after-len (ready-fits r room (f .fits) .len)) (after-start l));
-      }
+  step-own : leads (r .sc) ≡ true → of (ownHears r slot size s) (step r room (callLogged mine))
+  unfolding of loggedOn
+  step-own q =
+      logged-way (ownHears r slot size s) r mine room (λ a _ u. sym (ap (best (heldAt r s)) (none-own a (λ t z x. below (u z) x))))
+      (λ f. record {
+        only = λ u. after-held r mine (place (r .sc) s) ∙ sym (ap (best (heldAt r s)) (none-own 0 (λ t z x. deaf x (u refl (own t)))));
+        own = λ e o.
+            map-reply (hears (logged r mine) (ownAnswer r mine) s) (ownHears r slot size s) (logged r mine) (r .sc .id) (ownAnswer r mine)
+            (own-turn (and-make (o .booked) (le-leb _ _ (o .within))))
+            (reply-hears (logged r mine) (r .sc .id) (ownAnswer r mine) s after-whole (fit-facts r (f .fits) .numbers .window) l);
+        promised = λ e n. absurd (clash q n);
+        acked = other-entry PrepareBal AcceptData refl;
+        commits = other-entry PrepareBal AcceptData refl;
+        answered = other-entry PrepareBal AcceptData refl;
+        passes = other-entry PrepareBal CommitEntry refl;
+      })
     where
-      below : slot < r .sc .start → Arrived (afterLog r mine) (ownAnswer r mine) s → ⊥
+      below : slot < r .sc .start → Arrived (logged r mine) (ownAnswer r mine) s → ⊥
       below u x = let z = x .slot in omega arith
 
-      deaf : Arrived (afterLog r mine) (ownAnswer r mine) s → Unheard (afterLog r mine) (ownAnswer r mine) → ⊥
+      deaf : Arrived (logged r mine) (ownAnswer r mine) s → Unheard (logged r mine) (ownAnswer r mine) → ⊥
       deaf x (inl u) = u (x .sent)
       deaf x (inr u) = clash (x .booked) u
 
-  step-own : leads (r .sc) ≡ true → of (ownHears r slot size s) (step r room (callLogged mine))
-  step-own q = own-told (ownHears r slot size s) r room slot size q own-ways
+      own : ownBook r mine ≡ true → OwnReply (logged r mine) (loggedAt r mine) slot
+      own t = let b = and-both (loggedAt r mine .leader .present) _ t in record { leading = q; booked = b .0; within = leb-true _ _ (b .1) }
 
 -- ── one call, of every kind ──
-held-log : (r : Replica) (room : ℕ) (d : Done) (e : Entry) → d .entry ≡ e → (s : ℕ) → Good (r .sc) (r .window) → r .sc .start ≤ s → leads (r .sc) ≡ true
-    → leads (step r room (callLogged (record { entry = e; slot = d .slot; size = d .size })) .replica .sc) ≡ true
-    → step r room (callLogged (record { entry = e; slot = d .slot; size = d .size })) .replica .sc .«bal_prep_sent» ≡ r .sc .«bal_prep_sent»
-    → heldBy (atPlace (step r room (callLogged (record { entry = e; slot = d .slot; size = d .size })) .replica .window) (place (r .sc) s))
-    ≡ best (heldAt r s) (heard r (record { room = room; call = callLogged (record { entry = e; slot = d .slot; size = d .size }) }) s)
-unfolding of
-held-log r room d PrepareBal e s g st l x y = step-own r room (d .slot) (d .size) s g st l
-held-log r room d AcceptData e s g st l x y = step-holds r room (callLogged (record { entry = AcceptData; slot = d .slot; size = d .size })) s g l st (inr refl) refl x y
-held-log r room d CommitEntry e s g st l x y = step-holds r room (callLogged (record { entry = CommitEntry; slot = d .slot; size = d .size })) s g l st (inr refl) refl x y
+-- a reply that arrives, the leader's own, or a call that brings none
+pub heard-ways : (r : Replica) (room s : ℕ) (P : Call → List Vote → Type 0)
+    → ((peer : ℕ) (m : Reply) → P (callPrepareReply peer m) (heard r (record { room = room; call = callPrepareReply peer m }) s))
+    → ((slot size : ℕ) → P (callLogged (record { entry = PrepareBal; slot = slot; size = size })) (heard r (record { room = room; call = callLogged (record { entry = PrepareBal; slot = slot; size = size }) }) s))
+    → ((c : Call) → noReply c ≡ true → P c []) → (c : Call) → P c (heard r (record { room = room; call = c }) s)
+heard-ways r room s P came own none (callPrepareReply peer m) = came peer m
+heard-ways r room s P came own none (callLogged d) = entry (d .entry)
+  where
+    entry : (e : Entry) → P (callLogged (record { entry = e; slot = d .slot; size = d .size })) (heard r (record { room = room; call = callLogged (record { entry = e; slot = d .slot; size = d .size }) }) s)
+    entry PrepareBal = own (d .slot) (d .size)
+    entry AcceptData = none (callLogged (record { entry = AcceptData; slot = d .slot; size = d .size })) refl
+    entry CommitEntry = none (callLogged (record { entry = CommitEntry; slot = d .slot; size = d .size })) refl
+heard-ways r room s P came own none (callPrepare peer trigger ballot) = none (callPrepare peer trigger ballot) refl
+heard-ways r room s P came own none (callAccept peer slot ballot b) = none (callAccept peer slot ballot b) refl
+heard-ways r room s P came own none (callAcceptReply peer slot ballot) = none (callAcceptReply peer slot ballot) refl
+heard-ways r room s P came own none (callCommitNotice peer ballot bar) = none (callCommitNotice peer ballot bar) refl
+heard-ways r room s P came own none (callTimeout source) = none (callTimeout source) refl
+heard-ways r room s P came own none (callOffer b) = none (callOffer b) refl
+heard-ways r room s P came own none (callExecuted slot) = none (callExecuted slot) refl
+heard-ways r room s P came own none (callOpenRead id count keys) = none (callOpenRead id count keys) refl
+heard-ways r room s P came own none (callReadReply peer id fromLeader reply) = none (callReadReply peer id fromLeader reply) refl
 
 pub held-call : (r : Replica) (room : ℕ) (c : Call) (s : ℕ) → Good (r .sc) (r .window) → r .sc .start ≤ s → leads (r .sc) ≡ true
     → leads (step r room c .replica .sc) ≡ true → step r room c .replica .sc .«bal_prep_sent» ≡ r .sc .«bal_prep_sent»
     → (place (r .sc) s < r .window .len) ⊎ (noOffer c ≡ true)
     → heldBy (atPlace (step r room c .replica .window) (place (r .sc) s)) ≡ best (heldAt r s) (heard r (record { room = room; call = c }) s)
 unfolding of
-held-call r room (callPrepareReply peer m) s g st l x y h = step-hears r room peer m s g st
-held-call r room (callLogged d) s g st l x y h = held-log r room d (d .entry) refl s g st l x y
-held-call r room (callPrepare peer trigger ballot) s g st l x y h = step-holds r room (callPrepare peer trigger ballot) s g l st h refl x y
-held-call r room (callAccept peer slot ballot b) s g st l x y h = step-holds r room (callAccept peer slot ballot b) s g l st h refl x y
-held-call r room (callAcceptReply peer slot ballot) s g st l x y h = step-holds r room (callAcceptReply peer slot ballot) s g l st h refl x y
-held-call r room (callCommitNotice peer ballot bar) s g st l x y h = step-holds r room (callCommitNotice peer ballot bar) s g l st h refl x y
-held-call r room (callTimeout source) s g st l x y h = step-holds r room (callTimeout source) s g l st h refl x y
-held-call r room (callOffer b) s g st l x y h = step-holds r room (callOffer b) s g l st h refl x y
-held-call r room (callExecuted slot) s g st l x y h = step-holds r room (callExecuted slot) s g l st h refl x y
-held-call r room (callOpenRead id count keys) s g st l x y h = step-holds r room (callOpenRead id count keys) s g l st h refl x y
-held-call r room (callReadReply peer id fromLeader reply) s g st l x y h = step-holds r room (callReadReply peer id fromLeader reply) s g l st h refl x y
+held-call r room c s g st l =
+    heard-ways r room s
+    (λ k v. leads (step r room k .replica .sc) ≡ true → step r room k .replica .sc .«bal_prep_sent» ≡ r .sc .«bal_prep_sent» → (place (r .sc) s < r .window .len) ⊎ (noOffer k ≡ true)
+    → heldBy (atPlace (step r room k .replica .window) (place (r .sc) s)) ≡ best (heldAt r s) v)
+    (λ peer m x y h. step-hears r room peer m s g st) (λ slot size x y h. step-own r room slot size s g st l) (λ k n x y h. step-holds r room k s g l st h n x y) c

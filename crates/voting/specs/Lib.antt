@@ -1,12 +1,10 @@
 pub mod Paper
 pub mod History
 pub mod Windows
+pub mod Keeping
 pub mod Claims
-pub mod Asking
-pub mod Acking
 pub mod Replying
 pub mod Logging
-pub mod Adding
 pub mod Promises
 pub mod Reached
 pub mod Wholes

@@ -19,7 +19,7 @@ use Rattle.replica.specs.Messages.{appended, countedOn, votedOn, repliedOn, rep
 use Rattle.replica.specs.Leadership.{firstOpen, lastOpen, leadOn, stepUp, timeoutStep}
 use Rattle.replica.specs.Durability.{preparedDone, loggedOn, loggedStep}
 use Rattle.replica.specs.Step.{Call, callPrepareReply, callAccept, callTimeout, callLogged}
-use Rattle.voting.specs.Windows.{atPlace}
+use Rattle.laws.specs.ByPlace.{atPlace}
 use Rattle.voting.specs.History.{Lent, told, play}
 use Rattle.voting.specs.Reached.{Good, good-new}
 use Rattle.voting.specs.Votes.{voteOf, taken}

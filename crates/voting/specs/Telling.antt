@@ -1,31 +1,35 @@
 -- What an answer to a Prepare tells: the highest-numbered Accept taken for the slot, at the slot's ballot.
 use mathlib.Core.Path.{_≡_, refl, sym, ap, subst, _∙_}
-use mathlib.Core.List.{List, [], _∷_, _++_, List·Memᴰ·head, List·Memᴰ·tail}
-use mathlib.Core.Bool.{true, false}
+use mathlib.Core.List.{List, [], _∷_, List·Memᴰ·head, List·Memᴰ·tail}
+use mathlib.Core.Bool.{false}
 use mathlib.Core.Logic.{_⊎_, inl, inr}
 use Prim.Native.Nat.{ℕ, _-_, _≤_, _<_}
 use native.Mathlib.Omega.{arith}
 use Rattle.base.specs.Pick.{clash}
-use Rattle.base.specs.Among.{_∈_, All}
-use Rattle.actions.specs.Actions.{Act}
+use Rattle.base.specs.Among.{_∈_}
+use Rattle.actions.specs.declared.Action.the-variants.{PrepareReply}
+use Rattle.actions.specs.Actions.{Act, act}
 use Rattle.slots.specs.declared.Vote.{Vote}
 use Rattle.slots.specs.declared.Slot.{Slot}
-use Rattle.slots.specs.Slots.{loggedSlot}
 use Rattle.decide.specs.declared.Scalars.{Scalars}
 use Rattle.decide.specs.Scalars.{leads}
+use Rattle.decide.specs.Decide.{sentVote}
 use Rattle.replica.specs.declared.Replica.{Replica}
 use Rattle.replica.specs.declared.Done.{Done}
-use Rattle.replica.specs.declared.Entry.the-variants.{PrepareBal}
-use Rattle.replica.specs.Record.{place, logEnd, slotAt}
-use Rattle.replica.specs.Durability.{entryNumber, loggedOn}
+use Rattle.replica.specs.declared.Entry.the-variants.{PrepareBal, AcceptData, CommitSlot as CommitEntry}
+use Rattle.replica.specs.Record.{place, slotAt}
+use Rattle.replica.specs.Durability.{loggedOn}
 use Rattle.replica.specs.Step.{callLogged, step}
+use Rattle.laws.specs.OfFit.{fit-facts}
+use Rattle.laws.specs.ByPlace.{atPlace, at-here}
+use Rattle.laws.specs.WaysDurability.{Logs, loggedAt, other-entry}
 use Rattle.voting.specs.Paper.{Highest}
-use Rattle.voting.specs.Windows.{atPlace, Whole, at-here}
+use Rattle.voting.specs.Windows.{Whole}
+use Rattle.voting.specs.Keeping.{logged-keeps}
 use Rattle.voting.specs.History.{Lent, play}
 use Rattle.voting.specs.Claims.{Claim, of}
-use Rattle.voting.specs.Logging.{Logs, LogWays, loggedAt, promiseActs, logged-way}
-use Rattle.voting.specs.Reached.{ready-fits, logged-ballot}
-use Rattle.voting.specs.Votes.{voteOf, taken, lastOf, vote-last, vote-largest, logged-vote}
+use Rattle.voting.specs.Logging.{LogWays, logged-way}
+use Rattle.voting.specs.Votes.{voteOf, taken, lastOf, vote-last, vote-largest}
 use Rattle.voting.specs.Quorums.{logged-same}
 
 last-in : (v : Vote) (l : List Vote) → ((l ≡ []) × (lastOf v l ≡ v)) ⊎ (lastOf v l ∈ l)
@@ -46,6 +50,22 @@ vote-highest r h s w l = go (last-in (voteOf r s) (taken r h s))
     go (inl e) = inl (e .0, vote-last r h s w l ∙ e .1)
     go (inr m) = inr (subst (λ (v : Vote). v ∈ taken r h s) (sym (vote-last r h s w l)) m, vote-largest r h s w l)
 
+-- a follower's PrepareReply, at the end of its log entry
+abbrev pub promiseActs : Scalars → Slot → ℕ → List Act
+promiseActs sc s slot =
+    act (PrepareReply (record {
+      member = s .replica .source;
+      slot = slot;
+      trigger = s .replica .trigger;
+      endprep = s .replica .endprep;
+      ballot = s .ballot;
+      voted = sentVote s .ballot;
+      batch = sentVote s .batch .id;
+      count = sentVote s .batch .count;
+      bar = sc .«accept_bar»;
+    })) (sentVote s .batch .keys)
+    ∷ []
+
 -- what a follower says at the end of a PrepareBal entry for slot: nothing, or one answer, with the slot's vote, at the slot's ballot as it is
 -- now: the completion names no ballot
 pub record Tells (r : Replica) (slot : ℕ) (acts : List Act) : Type 0 where
@@ -62,23 +82,24 @@ told-same : (r : Replica) (d : Done) → Whole (r .window) → place (r .sc) (d 
 told-same r d h l u =
     let e = logged-same r d h l u in
     let here = at-here (r .window) (place (r .sc) (d .slot)) l in (
-      ap (λ (x : Slot). x .vote) e ∙ logged-vote (r .sc .«wal_offset») (slotAt (r .window) (place (r .sc) (d .slot))) ∙ ap (λ (x : Slot). x .vote) (sym here),
-      ap (λ (x : Slot). x .ballot) e ∙ logged-ballot (r .sc .«wal_offset») (slotAt (r .window) (place (r .sc) (d .slot))) ∙ ap (λ (x : Slot). x .ballot) (sym here),
+      ap (λ (x : Slot). x .vote) e ∙ logged-keeps (λ (x : Slot). x .vote) (λ s n. refl) (r .sc .«wal_offset») (slotAt (r .window) (place (r .sc) (d .slot))) ∙ ap (λ (x : Slot). x .vote) (sym here),
+      ap (λ (x : Slot). x .ballot) e ∙ logged-keeps (λ (x : Slot). x .ballot) (λ s n. refl) (r .sc .«wal_offset») (slotAt (r .window) (place (r .sc) (d .slot))) ∙ ap (λ (x : Slot). x .ballot) (sym here),
     )
 
-promise-ways : (r : Replica) (room slot size : ℕ) → Whole (r .window) → leads (r .sc) ≡ false → Logs r room (record { entry = PrepareBal; slot = slot; size = size })
+promise-ways : (r : Replica) (slot size : ℕ) → Whole (r .window) → leads (r .sc) ≡ false → Logs r (record { entry = PrepareBal; slot = slot; size = size })
     → LogWays (tells r slot) r (record { entry = PrepareBal; slot = slot; size = size })
 unfolding of loggedOn
-promise-ways r room slot size h n f =
-    let t = told-same r (record { entry = PrepareBal; slot = slot; size = size }) h (let x = f .from in let y = f .within in omega arith) (ready-fits r room (f .fits) .len) in
+promise-ways r slot size h n f =
+    let d : Done = record { entry = PrepareBal; slot = slot; size = size } in
+    let t = told-same r d h (let x = f .low in let y = f .high in omega arith) (fit-facts r (f .fits) .numbers .window) in
     record {
-      only = inl refl;
-      own = λ e l u. absurd (clash l n);
-      promised = λ e l u. inr (record { by = loggedAt r (record { entry = PrepareBal; slot = slot; size = size }); votes = t .0; ballot = t .1; says = refl });
-      acks = λ e l u. absurd (let z : _≡_ {A = ℕ} 1 2 = ap entryNumber e in omega arith);
-      still = inl refl;
-      answered = λ e l u. absurd (let z : _≡_ {A = ℕ} 1 2 = ap entryNumber e in omega arith);
-      passes = λ e. absurd (let z : _≡_ {A = ℕ} 1 3 = ap entryNumber e in omega arith);
+      only = λ u. inl refl;
+      own = λ e o. absurd (clash (o .leading) n);
+      promised = λ e l. inr (record { by = loggedAt r d; votes = t .0; ballot = t .1; says = refl });
+      acked = other-entry PrepareBal AcceptData refl;
+      commits = other-entry PrepareBal AcceptData refl;
+      answered = other-entry PrepareBal AcceptData refl;
+      passes = other-entry PrepareBal CommitEntry refl;
     }
 
 pub promise-tells : (r : Replica) (room slot size : ℕ) → Whole (r .window) → leads (r .sc) ≡ false
@@ -86,4 +107,4 @@ pub promise-tells : (r : Replica) (room slot size : ℕ) → Whole (r .window) �
     ⊎ Tells r slot (step r room (callLogged (record { entry = PrepareBal; slot = slot; size = size })) .actions)
 unfolding of
 promise-tells r room slot size h n =
-    logged-way (tells r slot) r room (record { entry = PrepareBal; slot = slot; size = size }) (λ a. inl refl) (λ f. promise-ways r room slot size h n f)
+    logged-way (tells r slot) r (record { entry = PrepareBal; slot = slot; size = size }) room (λ a l u. inl refl) (λ f. promise-ways r slot size h n f)
