@@ -27,6 +27,7 @@ use Rattle.replica.specs.declared.Replica.{Replica}
 use Rattle.replica.specs.Record.{place, number, slotAt, putSlot, sweep}
 use Rattle.replica.specs.Messages.{clean, promise, downActs, prepareTop, prepareBook, prepareStep, acceptStep, acceptReplyStep}
 use Rattle.replica.specs.Step.{Call, callAccept}
+use Rattle.laws.specs.OfScalars.{followed-fixed, followed-seen}
 use Rattle.laws.specs.OfDecide.{accepts}
 use Rattle.laws.specs.Windows.{put-long, grown-has, sweep-long}
 use Rattle.laws.specs.ByPlace.{atPlace, at-here, put-cases, put-at, sweep-cases}
@@ -63,7 +64,7 @@ clean-clean b =
 -- ── following another's ballot ──
 module _ (sc : Scalars) (w : Window) (g : Good sc w) (peer ballot : ℕ) (o : Owns peer ballot) (d : peer ≡ sc .id → ⊥) (l : sc .«bal_max_seen» ≤ ballot) where
   pub follow-seen : followed sc peer ballot .«bal_max_seen» ≡ ballot
-  follow-seen = pick-cases (λ (z : Scalars). z .«bal_max_seen» ≡ ballot) (ltb (sc .«bal_max_seen») ballot) (λ e. refl) (λ e. omega (arith, tests))
+  follow-seen = followed-seen sc peer ballot l
 
   pub follow-not : leads (followed sc peer ballot) ≡ true → ⊥
   follow-not =
@@ -71,17 +72,11 @@ module _ (sc : Scalars) (w : Window) (g : Good sc w) (peer ballot : ℕ) (o : Ow
       (λ e h. d (eqb-true peer (sc .id) h))
       (λ e h. d (omega (arith, tests, g .own h)))
 
-  pub follow-id : followed sc peer ballot .id ≡ sc .id
-  follow-id = pick-both (λ (z : Scalars). z .id ≡ sc .id) (ltb (sc .«bal_max_seen») ballot) refl refl
-
-  pub follow-start : followed sc peer ballot .start ≡ sc .start
-  follow-start = pick-both (λ (z : Scalars). z .start ≡ sc .start) (ltb (sc .«bal_max_seen») ballot) refl refl
-
   pub follow-heads : Heads sc (followed sc peer ballot)
   follow-heads =
       record {
-        id = follow-id;
-        start = follow-start;
+        id = followed-fixed sc peer ballot .id;
+        start = followed-fixed sc peer ballot .start;
         mono = omega (arith, follow-seen);
         lead = λ z. absurd (follow-not z);
         sent = λ z. absurd (follow-not z);
@@ -176,7 +171,7 @@ module _ (sc : Scalars) (w : Window) (c : Call) (g : Good sc w) (peer slot ballo
   accepted-held : Holds (view (followed sc peer ballot) (putSlot w i accepted) .slot slot) ballot (clean m)
   accepted-held =
       at-number (λ (x : Cell). Holds x ballot (clean m)) (followed sc peer ballot .start) (putSlot w i accepted) slot i
-      (omega (arith, follow-start sc w g peer ballot o d l))
+      (omega (arith, followed-fixed sc peer ballot .start))
       (subst (λ (y : Slot). Holds (cell y) ballot (clean m)) (sym (put-at w i accepted h (omega (arith, g .wide, g .short))))
       (record { on = omega arith; at = refl; val = refl }))
 

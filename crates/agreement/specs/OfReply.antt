@@ -28,7 +28,7 @@ use Rattle.replica.specs.Step.{Call}
 use Rattle.laws.specs.OfScalars.{fallen-ways}
 use Rattle.laws.specs.Windows.{put-long, sweep-long, appendedAs, appended-long, appended-low, appended-has, appended-most}
 use Rattle.laws.specs.ByPlace.{atPlace, at-here, at-past, appended-cases, put-cases, sweep-cases, sweep-at}
-use Rattle.laws.specs.WaysReply.{adoptsVote, heardSlot, replyWindow, replySlot, heardWindow, triggerSlot, countedWindow, tabledSc, Answers, Heard, replyOn-ways, prepareReplyStep-ways}
+use Rattle.laws.specs.WaysReply.{adoptsVote, heardSlot, replyWindow, replySlot, heardWindow, triggerSlot, countedWindow, tabledSc, Answers, Heard, replyOn-ways, prepareReplyStep-ways, reply-place}
 use Rattle.agreement.specs.Theorem.{acceptEntry}
 use Rattle.agreement.specs.Frame.{Cell, cell, View, view, Owns, Clean, Holds, led, ActOk, low, wrote}
 use Rattle.agreement.specs.Good.{GoodSlot, Good, StepOk, Ok, GoodReplica, Same, same-self, same-leads, heads-same, good-same, Turned, Like, like-self, good-like, step-like, Each, assemble, at-number, kept-ok}
@@ -248,7 +248,7 @@ replyOn-ok r c g peer m t =
     j = place (r .sc) (m .trigger)
 
     wide : Answers r m → Primed (r .sc) (r .window) (replyWindow r m)
-    wide f = appended-primed r j i g (f .leading) (omega (arith, f .low, f .from, f .high))
+    wide f = appended-primed r j i g (f .leading) (reply-place r m f)
 
     said : Answers r m → (v v′ : View) (all : List Act) → v′ .seen ≡ r .sc .«bal_max_seen» → All (ActOk v c v′ all) (appendActs r i)
     said f v v′ all s =

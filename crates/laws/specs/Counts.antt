@@ -35,7 +35,7 @@ use Rattle.laws.specs.OfDecide.{reports}
 use Rattle.laws.specs.Leaves.{done, put-back}
 use Rattle.laws.specs.Windows.{size, put-long, grown-has, grown-most, sweep-long, appended-long, appended-most, top-within}
 use Rattle.laws.specs.WaysMessages.{Keeps, Prepares, prepareWindow, prepareEnd}
-use Rattle.laws.specs.WaysReply.{replyWindow, heardWindow, countedWindow, tabledSc, replyOn-ways}
+use Rattle.laws.specs.WaysReply.{replyWindow, heardWindow, countedWindow, tabledSc, replyOn-ways, reply-place}
 use Rattle.laws.specs.WaysLeadership.{Leads, leadWindow, leadFrom, markEnd, markFrom, markWindow}
 use Rattle.laws.specs.WaysDurability.{logged, withSlot, Completes, completes-silent, completes-more, completes-commit, completes-report, moved-ways, passFrom}
 use Rattle.laws.specs.WaysAdded.{readAt, readPlace, Asked}
@@ -110,9 +110,9 @@ module _ (P : Outcome → Type 0) (r : Replica) (peer : ℕ) (m : Reply) (room :
       let j : ℕ = place (r .sc) (m .trigger) in
       let fixed = fallen-fixed (r .sc) (r .bars) peer (m .bar) in
       replyOn-ways P r peer m (λ a h z. k a h)
-      (λ f a. on _ _ (omega (arith, f .low, f .from, f .high, append-few r i)) fixed (appended-long r j i))
-      (λ f h e. on _ _ (omega (arith, f .low, f .from, f .high, append-few r i)) fixed (heard-long r peer m))
-      (λ f h e q. on _ _ (omega (arith, f .low, f .from, f .high, append-few r i)) fixed (counted-long r peer m))
+      (λ f a. on _ _ (omega (arith, reply-place r m f, append-few r i)) fixed (appended-long r j i))
+      (λ f h e. on _ _ (omega (arith, reply-place r m f, append-few r i)) fixed (heard-long r peer m))
+      (λ f h e q. on _ _ (omega (arith, reply-place r m f, append-few r i)) fixed (counted-long r peer m))
       (λ f h e q b.
       let g : ℕ → List Act = λ k. enterActs (number (tabledSc r peer m) k) (m .ballot) (slotAt (countedWindow r peer m) k) in
       on _ _
@@ -123,7 +123,7 @@ module _ (P : Outcome → Type 0) (r : Replica) (peer : ℕ) (m : Reply) (room :
         f .high,
         f .logged,
         append-few r i,
-        appended-most r j i 64 room (omega (arith, f .low, f .from, f .high)),
+        appended-most r j i 64 room (reply-place r m f),
         length-append (appendActs r i) (gather g j (replyWindow r m .len)),
         length-gather-two g (λ k. enter-few (number (tabledSc r peer m) k) (m .ballot) (slotAt (countedWindow r peer m) k)) j (replyWindow r m .len),
       ))

@@ -82,8 +82,8 @@ fits-good Z r s f =
             record {
               batch = record { few = f .slots i l .batch; eight = λ z. s z .slot-keys i l };
               vote = record { few = f .slots i l .vote; eight = λ z. s z .vote-keys i l };
-              prepares = f .slots i l .prepare-acks;
-              accepts = f .slots i l .accept-acks;
+              prepares = f .slots i l .prepare;
+              accepts = f .slots i l .accept;
             };
       };
       keys = record { few = f .keys; keys = λ z. s z .table-keys; slots = λ z. s z .table-slots };
@@ -103,8 +103,8 @@ good-fits Z r g =
           record {
             batch = g .window .each i l .batch .few;
             vote = g .window .each i l .vote .few;
-            prepare-acks = g .window .each i l .prepares;
-            accept-acks = g .window .each i l .accepts;
+            prepare = g .window .each i l .prepares;
+            accept = g .window .each i l .accepts;
           };
       keys = g .keys .few;
       reads = record { count = g .reads .few; each = λ i l. g .reads .each i l .fits };

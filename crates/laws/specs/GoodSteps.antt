@@ -28,7 +28,7 @@ use Rattle.laws.specs.OfFit.{FitNumbers}
 use Rattle.laws.specs.Leaves.{done}
 use Rattle.laws.specs.Windows.{grown-low, grown-has, appended-low, appended-has}
 use Rattle.laws.specs.WaysMessages.{Keeps, prepareWindow, prepareEnd, prepareStep-ways, acceptWindow, acceptStep-ways, Replies, repliedSlot, acceptReplyStep-ways}
-use Rattle.laws.specs.WaysReply.{Answers, replyWindow, replySlot, adoptsVote, heardSlot, heardWindow, triggerSlot, countedWindow, tabledSc, replyOn-ways, prepareReplyStep-ways}
+use Rattle.laws.specs.WaysReply.{Answers, replyWindow, replySlot, adoptsVote, heardSlot, heardWindow, triggerSlot, countedWindow, tabledSc, replyOn-ways, prepareReplyStep-ways, reply-place}
 use Rattle.laws.specs.WaysLeadership.{leadWindow, leadFrom, leadTrigger, leadEnd, timeoutStep-ways, markWindow, markFrom, markEnd, commitNoticeStep-ways}
 use Rattle.laws.specs.WaysDurability.{logged, withSlot}
 use Rattle.laws.specs.WaysAdded.{offerWindow, offerStep-ways, executedStep-ways, openReadStep-ways, readAt, readPlace, mergedRead, readReplyStep-ways}
@@ -92,7 +92,7 @@ module _ (Z : Type 0) (r : Replica) (g : Good Z r) where
       let j : ℕ = place (r .sc) (m .trigger) in
       let group : ℕ = r .sc .group in
       let w : Answers r m → GoodWindow Z group (replyWindow r m) =
-      λ f. good-appended Z group r j i (omega (arith, f .low, f .from, f .high)) (g .window) in
+      λ f. good-appended Z group r j i (reply-place r m f) (g .window) in
       let heard : Answers r m → GoodWindow Z group (heardWindow r m) =
       λ f.
       good-put Z group (replyWindow r m) i (heardSlot (replySlot r m) m)

@@ -5,8 +5,8 @@ pub mod WaysReply
 pub mod WaysLeadership
 pub mod WaysDurability
 pub mod WaysAdded
-pub mod OfFit
 pub mod OfBase
+pub mod OfFit
 pub mod Windows
 pub mod ByPlace
 pub mod OfScalars

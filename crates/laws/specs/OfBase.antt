@@ -1,9 +1,11 @@
--- Laws for base: an element of a list after a store or a sweep, whatever the list's length; how long a gather of pairs is.
-use mathlib.Core.Path.{_≡_}
-use mathlib.Core.Bool.{true, false}
+-- Laws for base: an element of a list after a store or a sweep, whatever the list's length; how long a gather of pairs is; a search that
+-- finds nothing.
+use mathlib.Core.Path.{_≡_, refl}
+use mathlib.Core.Bool.{Bool, true, false}
 use mathlib.Core.List.{List}
 use mathlib.Core.Logic.{_⊎_, inl, inr}
 use Prim.Native.Nat.{ℕ, zero, suc, _-_, _*_, _≤_, _<_}
+use native.Mathlib.Nat.{le-refl}
 use native.Mathlib.Omega.{arith}
 use lib.Dec.{ltb, leb}
 use lib.ListN.{length, getD, set, length-append, List·getD-eq-default}
@@ -12,6 +14,7 @@ use borrow.Author.Tests.{ltb-true, ltb-false, leb-true}
 use Rattle.base.specs.Pick.{pick-cases, decide, same?, tests}
 use Rattle.base.specs.Over.{over, over-at, over-before, over-after, length-over}
 use Rattle.base.specs.Gather.{gather}
+use Rattle.base.specs.Find.{any}
 
 module _ {A : Type 0} (d : A) where
   pub set-each : (P : A → Type 0) (l : List A) (i j : ℕ) (x : A) → (j ≡ i → P x) → P (getD l j d) → P (getD (set l i x) j d)
@@ -45,3 +48,11 @@ module _ {B : Type 0} (g : ℕ → List B) where
       pick-cases (λ (x : List B). length x ≤ 2 * (suc j - from)) (leb from j)
       (λ t. omega (arith, leb-true, length-append (gather g from j) (g j), length-gather-two k from j, k j))
       (λ t. omega (arith, length-gather-two k from j))
+
+-- a test that fails throughout a range
+pub any-nowhere : (p : ℕ → Bool) (from to : ℕ) → ((i : ℕ) → from ≤ i → i < to → p i ≡ false) → any p from to ≡ false
+any-nowhere p from zero h = refl
+any-nowhere p from (suc j) h =
+    pick-cases (λ (x : Bool). x ≡ false) (leb from j)
+    (λ t. rw (h j (leb-true from j t) (le-refl (suc j))) (any-nowhere p from j (λ i l u. h i l (omega arith))))
+    (λ t. any-nowhere p from j (λ i l u. h i l (omega arith)))

@@ -1,26 +1,26 @@
 -- The fit test as facts, both ways.
 use mathlib.Core.Path.{_≡_, refl}
 use mathlib.Core.Bool.{Bool, true, false, not, _||_}
-use Prim.Native.Nat.{ℕ, zero, suc, _+_, _≤_, _<_}
+use Prim.Native.Nat.{ℕ, _+_, _≤_, _<_}
 use native.Mathlib.Nat.{le-refl}
 use native.Mathlib.Omega.{arith}
 use lib.Dec.{ltb, leb, eqb}
 use lib.ListN.{getD}
 use borrow.Author.Tests.{ltb-true, leb-true, not-true, not-false, lt-ltb, le-leb}
-use Rattle.base.specs.Pick.{pick-cases, and-left, and-right, and-make, clash}
+use Rattle.base.specs.Pick.{and-left, and-right, and-make}
 use Rattle.base.specs.Find.{any, any-false}
-use Rattle.members.specs.Sets.{fitsGroup}
 use Rattle.members.specs.Groups.{groupSize}
 use Rattle.tally.specs.declared.Reads.{Reads}
 use Rattle.tally.specs.Open.{noRead}
-use Rattle.slots.specs.declared.Slot.{Slot}
 use Rattle.slots.specs.Slots.{fitSlot}
+use Rattle.slots.specs.Laws.{Fit as FitSlot, fit-parts, fit-made}
 use Rattle.decide.specs.declared.Scalars.{Scalars}
 use Rattle.decide.specs.Scalars.{nobody}
 use Rattle.replica.specs.declared.Window.{Window}
 use Rattle.replica.specs.declared.Replica.{Replica}
 use Rattle.replica.specs.Record.{slotAt, fresh, mayBe}
 use Rattle.replica.specs.Fit.{fitScalars, fitSlots, fitRead, fitReads, fit}
+use Rattle.laws.specs.OfBase.{any-nowhere}
 
 -- no leader, or one of the group
 abbrev pub leaderFits : Scalars → Bool
@@ -75,36 +75,9 @@ facts-numbers sc len f =
     (and-make (le-leb _ _ (f .log))
     (and-make (le-leb _ _ (f .accept)) (le-leb _ _ (f .accept-log))))))))))
 
--- ── one slot ──
-pub record FitSlot (group : ℕ) (s : Slot) : Type 0 where
-  pub batch : s .batch .count ≤ 8
-  pub vote : s .vote .batch .count ≤ 8
-  pub prepare-acks : fitsGroup (s .leader .«prepare_acks») group ≡ true
-  pub accept-acks : fitsGroup (s .leader .«accept_acks») group ≡ true
-
-pub slot-facts : (group : ℕ) (s : Slot) → fitSlot group s ≡ true → FitSlot group s
-unfolding fitSlot
-slot-facts group s e =
-    let a = and-right (leb (s .batch .count) 8) _ e in
-    let b = and-right (leb (s .vote .batch .count) 8) _ a in
-    record {
-      batch = leb-true _ _ (and-left (leb (s .batch .count) 8) _ e);
-      vote = leb-true _ _ (and-left (leb (s .vote .batch .count) 8) _ a);
-      prepare-acks = and-left (fitsGroup (s .leader .«prepare_acks») group) _ b;
-      accept-acks = and-right (fitsGroup (s .leader .«prepare_acks») group) _ b;
-    }
-
-pub facts-slot : (group : ℕ) (s : Slot) → FitSlot group s → fitSlot group s ≡ true
-unfolding fitSlot
-facts-slot group s f = and-make (le-leb _ _ (f .batch)) (and-make (le-leb _ _ (f .vote)) (and-make (f .prepare-acks) (f .accept-acks)))
-
 -- ── a whole record ──
 none-fails : (p : ℕ → Bool) (end : ℕ) → ((i : ℕ) → i < end → p i ≡ true) → any (λ i. not (p i)) 0 end ≡ false
-none-fails p zero h = refl
-none-fails p (suc j) h =
-    pick-cases (λ (x : Bool). x ≡ false) (leb 0 j)
-    (λ t. pick-cases (λ (x : Bool). x ≡ false) (not (p j)) (λ u. absurd (clash (h j (omega arith)) (not-true _ u))) (λ u. none-fails p j (λ i l. h i (omega arith))))
-    (λ t. none-fails p j (λ i l. h i (omega arith)))
+none-fails p end h = any-nowhere (λ i. not (p i)) 0 end (λ i _ l. rw (h i l))
 
 all-pass : (p : ℕ → Bool) (end : ℕ) → not (any (λ i. not (p i)) 0 end) ≡ true → (i : ℕ) → i < end → p i ≡ true
 all-pass p end e i l = not-false _ (any-false (λ i. not (p i)) 0 end i (not-true _ e) (omega arith) l)
@@ -124,11 +97,11 @@ pub record Fits (r : Replica) : Type 0 where
 
 pub window-facts : (group : ℕ) (w : Window) → fitSlots group w ≡ true → FitWindow group w
 unfolding fitSlots
-window-facts group w e i l = slot-facts group (slotAt w i) (all-pass (λ i. fitSlot group (slotAt w i)) (w .len) e i l)
+window-facts group w e i l = fit-parts group (slotAt w i) (all-pass (λ i. fitSlot group (slotAt w i)) (w .len) e i l)
 
 pub facts-window : (group : ℕ) (w : Window) → FitWindow group w → fitSlots group w ≡ true
 unfolding fitSlots
-facts-window group w f = rw (none-fails (λ i. fitSlot group (slotAt w i)) (w .len) (λ i l. facts-slot group (slotAt w i) (f i l)))
+facts-window group w f = rw (none-fails (λ i. fitSlot group (slotAt w i)) (w .len) (λ i l. fit-made group (slotAt w i) (f i l)))
 
 pub reads-facts : (group : ℕ) (rs : Reads) → fitReads group rs ≡ true → FitReads group rs
 unfolding fitReads

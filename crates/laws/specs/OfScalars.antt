@@ -1,9 +1,10 @@
 -- What no change of the scalars touches: id, group, start and options.
 use mathlib.Core.Path.{_≡_, refl, _∙_}
 use lib.Dec.{ltb}
-use Prim.Native.Nat.{ℕ}
+use Prim.Native.Nat.{ℕ, _≤_}
+use native.Mathlib.Omega.{arith}
 use mathlib.Core.Bool.{_&&_}
-use Rattle.base.specs.Pick.{pick-both}
+use Rattle.base.specs.Pick.{pick-both, pick-cases, tests}
 use Rattle.decide.specs.declared.Scalars.{Scalars}
 use Rattle.decide.specs.declared.PeerBars.{PeerBars}
 use Rattle.decide.specs.Scalars.{followed, withPeerMax}
@@ -25,6 +26,11 @@ fixed-then a b c f g =
 pub followed-fixed : (sc : Scalars) (peer ballot : ℕ) → Fixed sc (followed sc peer ballot)
 followed-fixed sc peer ballot =
     pick-both (Fixed sc) (ltb (sc .«bal_max_seen») ballot) (record { id = refl; group = refl; start = refl; options = refl }) (fixed-same sc)
+
+-- a ballot that is not below the largest seen is the largest then
+pub followed-seen : (sc : Scalars) (peer ballot : ℕ) → sc .«bal_max_seen» ≤ ballot → followed sc peer ballot .«bal_max_seen» ≡ ballot
+followed-seen sc peer ballot l =
+    pick-cases (λ (x : Scalars). x .«bal_max_seen» ≡ ballot) (ltb (sc .«bal_max_seen») ballot) (λ t. refl) (λ t. omega (arith, tests))
 
 -- a bar in the peer accept table changes peer_accept_max alone
 pub fallen-ways : (P : Scalars → Type 0) (sc : Scalars) (b : PeerBars) (m bar : ℕ) → P sc → ((max : ℕ) → P (withPeerMax sc max)) → P (withFallen sc b m bar)

@@ -11,6 +11,7 @@ use Rattle.base.specs.Gather.{gather}
 use Rattle.members.specs.declared.NextBallot.{NextBallot}
 use Rattle.members.specs.declared.NextBallot.the-variants.{Ballot, Spent}
 use Rattle.members.specs.Ballots.{owns, nextBallot}
+use Rattle.members.specs.Laws.{next-given, next-larger}
 use Rattle.actions.specs.declared.Action.the-variants.{Prepare, Heartbeat, StatusUp}
 use Rattle.actions.specs.Actions.{bare}
 use Rattle.slots.specs.Slots.{newBook, redoneSlot, markedSlot}
@@ -58,6 +59,10 @@ pub record Leads (r : Replica) (source ballot : ℕ) : Type 0 where
   pub next : nextBallot (r .sc .«bal_max_seen») (r .sc .id) ≡ Ballot ballot
   pub open-high : r .sc .«exec_bar» ≤ leadTrigger r
   pub room : firstOpen (r .window) < 64
+
+-- the new ballot is larger than all that were seen
+pub leads-up : (r : Replica) (source ballot : ℕ) → Leads r source ballot → r .sc .«bal_max_seen» < ballot
+leads-up r source ballot f = omega (arith, next-given (r .sc .«bal_max_seen») (r .sc .id) ballot (f .next) .made, next-larger (r .sc .«bal_max_seen») (r .sc .id))
 
 stepUp-ways : (P : Outcome → Type 0) (r : Replica) (b : NextBallot) → Keeps P r
     → ((ballot : ℕ) → b ≡ Ballot ballot → r .sc .«exec_bar» ≤ leadTrigger r → firstOpen (r .window) < 64 → P (led r ballot)) → P (stepUp r b)

@@ -111,6 +111,10 @@ pub record Answers (r : Replica) (m : Reply) : Type 0 where
   pub high : m .slot < r .sc .start + 64
   pub booked : slotAt (r .window) (place (r .sc) (m .trigger)) .leader .present ≡ true
 
+-- the reply's slot has a place
+pub reply-place : (r : Replica) (m : Reply) → Answers r m → place (r .sc) (m .slot) < 64
+reply-place r m f = omega (arith, f .low, f .from, f .high)
+
 -- why one is ignored: it is at another ballot, or its trigger has no leader's bookkeeping
 abbrev pub Unheard : Replica → Reply → Type 0
 Unheard r m = (m .ballot ≡ r .sc .«bal_prep_sent» → ⊥) ⊎ (slotAt (r .window) (place (r .sc) (m .trigger)) .leader .present ≡ false)

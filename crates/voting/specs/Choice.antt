@@ -9,7 +9,6 @@ use lib.Dec.{ltb, leb, eqb}
 use borrow.Author.Tests.{ltb-true}
 use Rattle.base.specs.Pick.{pick-both, pick-cases, and-both}
 use Rattle.base.specs.Among.{All, all-append}
-use Rattle.members.specs.Laws.{next-given, next-larger}
 use Rattle.slots.specs.declared.Vote.{Vote}
 use Rattle.slots.specs.declared.Slot.{Slot}
 use Rattle.slots.specs.Slots.{newBook, redoneSlot, withState, withLeader, withExternal, committed, executed, preparing}
@@ -24,7 +23,7 @@ use Rattle.replica.specs.Step.{Call, callPrepareReply, callTimeout, callLogged,
 use Rattle.laws.specs.OfFit.{fit-facts}
 use Rattle.laws.specs.Windows.{size, grown-long, grown-most}
 use Rattle.laws.specs.ByPlace.{atPlace, sweep-cases, grown-at, at-past}
-use Rattle.laws.specs.WaysLeadership.{leadWindow, leadTrigger, leadEnd, leadFrom, led, Leads, timeoutStep-ways}
+use Rattle.laws.specs.WaysLeadership.{leadWindow, leadTrigger, leadEnd, leadFrom, led, Leads, timeoutStep-ways, leads-up}
 use Rattle.laws.specs.WaysDurability.{logged}
 use Rattle.voting.specs.Paper.{Choice}
 use Rattle.voting.specs.History.{Lent, told, play}
@@ -113,8 +112,7 @@ step-up-unheard r room source s g st =
         → (atPlace (led r b .replica .window) (place (r .sc) s) .leader .«prepare_max_bal» ≡ 0)
         × (atPlace (led r b .replica .window) (place (r .sc) s) .batch ≡ atPlace (r .window) (place (r .sc) s) .batch)
     fresh b f =
-        let k = next-given (r .sc .«bal_max_seen») (r .sc .id) b (f .next) in
-        let up : r .sc .«bal_max_seen» < b = omega (arith, k .made, next-larger (r .sc .«bal_max_seen») (r .sc .id)) in
+        let up = leads-up r source b f in
         let at = grown-at (r .window) (firstOpen (r .window) + 1) (place (r .sc) s) (omega (arith, f .room)) in
         let low : atPlace (leadWindow r) (place (r .sc) s) .ballot ≤ r .sc .«bal_max_seen» = omega (arith, ap (λ (x : Slot). x .ballot) at, g .slots (place (r .sc) s)) in
         let long : leadWindow r .len ≤ size (leadWindow r) =

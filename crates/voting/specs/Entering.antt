@@ -26,7 +26,7 @@ use Rattle.laws.specs.OfFit.{fit-facts}
 use Rattle.laws.specs.Windows.{appended-most}
 use Rattle.laws.specs.Counts.{counted-long}
 use Rattle.laws.specs.ByPlace.{atPlace, sweep-at, at-here}
-use Rattle.laws.specs.WaysReply.{replyWindow, heardWindow, countedWindow, Answers}
+use Rattle.laws.specs.WaysReply.{replyWindow, heardWindow, countedWindow, Answers, reply-place}
 use Rattle.laws.specs.WaysDurability.{Logs, logged, other-entry}
 use Rattle.voting.specs.Windows.{Whole, whole-put}
 use Rattle.voting.specs.Claims.{Claim, of}
@@ -69,7 +69,7 @@ module _ (r : Replica) (peer : ℕ) (m : Reply) (h : Whole (r .window)) (n : r .
       → (x : Act) → x ≡ act (Accept (proposal (number (r .sc) i) (m .ballot) (slotAt (countedWindow r peer m) i .batch))) (slotAt (countedWindow r peer m) i .batch .keys)
       → Entered r (m .ballot) (enteredWindow r peer m) x
   enters-at f i lo hi s x e =
-      let u = appended-most r (place (r .sc) (m .trigger)) (place (r .sc) (m .slot)) 64 n (let x = f .low in let y = f .from in let z = f .high in omega arith) in
+      let u = appended-most r (place (r .sc) (m .trigger)) (place (r .sc) (m .slot)) 64 n (reply-place r m f) in
       let z : atPlace (enteredWindow r peer m) i ≡ withState (slotAt (countedWindow r peer m) i) (slotAt (countedWindow r peer m) i .ballot) accepting =
       sweep-at (λ k v. enteredSlot v) (place (r .sc) (m .trigger)) (countedWindow r peer m .len) (countedWindow r peer m) i (let z = counted-long r peer m in omega arith) lo hi hi
       ∙ ap enteredSlot (at-here (countedWindow r peer m) i hi)

@@ -9,7 +9,7 @@ use lib.Dec.{ltb, eqb}
 use borrow.Author.Tests.{ltb-false, leb-true, eqb-true, eq-eqb, le-leb, le-ltb}
 use Rattle.base.specs.Pick.{pick, pick-cases, decide, same?, clash, and-both, and-make}
 use Rattle.members.specs.Ballots.{owns}
-use Rattle.members.specs.Laws.{owners-same, next-given, next-larger}
+use Rattle.members.specs.Laws.{owners-same}
 use Rattle.batch.specs.declared.Batch.{Batch}
 use Rattle.actions.specs.Actions.{Act}
 use Rattle.slots.specs.declared.Vote.{Vote}
@@ -33,8 +33,8 @@ use Rattle.laws.specs.OfFit.{fit-facts}
 use Rattle.laws.specs.Windows.{appended-long, appended-has, appended-most}
 use Rattle.laws.specs.ByPlace.{atPlace, put-keeps, put-at, put-elsewhere, sweep-keeps, grown-at, appended-cases, at-here, at-past}
 use Rattle.laws.specs.WaysMessages.{prepareWindow, prepareEnd, prepareStep-ways, Accepts, acceptStep-ways, acceptReplyStep-ways}
-use Rattle.laws.specs.WaysReply.{replyWindow, replySlot, heardSlot, heardWindow, countedWindow, Answers, Heard, Unheard}
-use Rattle.laws.specs.WaysLeadership.{timeoutStep-ways, markWindow, markFrom, markEnd, commitNoticeStep-ways}
+use Rattle.laws.specs.WaysReply.{replyWindow, replySlot, heardSlot, heardWindow, countedWindow, Answers, Heard, Unheard, reply-place}
+use Rattle.laws.specs.WaysLeadership.{timeoutStep-ways, markWindow, markFrom, markEnd, commitNoticeStep-ways, leads-up}
 use Rattle.laws.specs.WaysDurability.{logged, loggedAt, OwnReply, passFrom, other-entry}
 use Rattle.laws.specs.WaysAdded.{offerWindow, offerStep-ways, executedStep-ways}
 use Rattle.voting.specs.Windows.{Whole, whole-put}
@@ -87,7 +87,7 @@ held-weighed m x = go (m .voted && ltb (heldBy x .ballot) (m .vote .ballot))
 module _ (r : Replica) (peer : ℕ) (m : Reply) (s : ℕ) (h : Whole (r .window)) (n : r .window .len ≤ 64) (l : r .sc .start ≤ s) where
   wide-held : Answers r m → (i : ℕ) → heldBy (atPlace (replyWindow r m) i) ≡ heldBy (atPlace (r .window) i)
   wide-held f i =
-      appended-cases (λ (x : Slot). heldBy x ≡ heldBy (atPlace (r .window) i)) r (place (r .sc) (m .trigger)) (place (r .sc) (m .slot)) i (let u = f .high in let x = f .low in let y = f .from in omega arith)
+      appended-cases (λ (x : Slot). heldBy x ≡ heldBy (atPlace (r .window) i)) r (place (r .sc) (m .trigger)) (place (r .sc) (m .slot)) i (let u = reply-place r m f in omega arith)
       (λ l. ap heldBy (sym (at-past (r .window) i l))) refl
 
   arrives-here : Answers r m → Heard r peer m → m .slot ≡ s → arrives r m s ≡ true
@@ -103,7 +103,7 @@ module _ (r : Replica) (peer : ℕ) (m : Reply) (s : ℕ) (h : Whole (r .window)
       go (inl e) =
           let i : ℕ = place (r .sc) (m .slot) in
           let k = appended-has r (place (r .sc) (m .trigger)) i in
-          let u = appended-most r (place (r .sc) (m .trigger)) i 64 n (let x = f .high in let y = f .low in let z = f .from in omega arith) in
+          let u = appended-most r (place (r .sc) (m .trigger)) i 64 n (reply-place r m f) in
           let there : heldBy (replySlot r m) ≡ heldAt r s = ap heldBy (sym (at-here (replyWindow r m) i k)) ∙ wide-held f i ∙ ap (λ (x : ℕ). heldAt r x) e in
           ap (λ (x : ℕ). heldBy (atPlace (heardWindow r m) (place (r .sc) x))) (sym e)
           ∙ ap heldBy (put-at (replyWindow r m) i (heardSlot (replySlot r m) m) k (let z = appended-long r (place (r .sc) (m .trigger)) i in omega arith))
@@ -204,10 +204,7 @@ step-holds r room c s g l st = go c
         ∙ ap heldBy (grown-at (r .window) (place (r .sc) bar) (place (r .sc) s) (omega (arith, f .high))))
     go (callTimeout source) h n =
         timeoutStep-ways (of (holds r s)) r room source (λ a z x y. refl)
-        (λ b f x y. absurd
-        (let k = next-given (r .sc .«bal_max_seen») (r .sc .id) b (f .next) in
-        let z = g .sent in
-        omega (arith, k .made, next-larger (r .sc .«bal_max_seen») (r .sc .id))))
+        (λ b f x y. absurd (let z = g .sent in omega (arith, leads-up r source b f)))
     go (callOffer b) (inr e) n = absurd (clash e refl)
     go (callOffer b) (inl u) n =
         offerStep-ways (of (holds r s)) r room b (λ a z x y. refl)

@@ -13,7 +13,6 @@ use Rattle.base.specs.Among.{_∈_}
 use Rattle.base.specs.Gather.{in-gather}
 use Rattle.base.specs.Find.{any}
 use Rattle.members.specs.Ballots.{owns}
-use Rattle.members.specs.Laws.{next-given, next-larger}
 use Rattle.batch.specs.declared.Batch.{Batch}
 use Rattle.batch.specs.Batches.{isBatch}
 use Rattle.batch.specs.Keys.{overfull}
@@ -34,7 +33,7 @@ use Rattle.replica.specs.Durability.{loggedOn}
 use Rattle.replica.specs.Added.{movedExec}
 use Rattle.replica.specs.Step.{Call, callPrepare, callPrepareReply, callAccept, callAcceptReply, callCommitNotice, callTimeout, callLogged, callOffer, callExecuted, callOpenRead, callReadReply, step}
 use Rattle.laws.specs.WaysMessages.{prepareEnd, prepared, prepareStep-ways, accepted, acceptStep-ways, acceptReplyStep-ways}
-use Rattle.laws.specs.WaysLeadership.{Leads, timeoutStep-ways, commitNoticeStep-ways}
+use Rattle.laws.specs.WaysLeadership.{timeoutStep-ways, commitNoticeStep-ways, leads-up}
 use Rattle.laws.specs.WaysAdded.{offerStep-ways, executedStep-ways}
 use Rattle.laws.specs.Theorems.{id-stays, group-stays, start-stays}
 use Rattle.voting.specs.History.{Lent, told, play}
@@ -56,9 +55,6 @@ follows : (sc : Scalars) (peer ballot : ℕ) → sc .«bal_max_seen» ≤ follow
 follows sc peer ballot =
     pick-cases (λ (x : Scalars). sc .«bal_max_seen» ≤ x .«bal_max_seen») (ltb (sc .«bal_max_seen») ballot) (λ t. omega (arith, tests)) (λ t. le-refl (sc .«bal_max_seen»))
 
-rises : (r : Replica) (source b : ℕ) → Leads r source b → r .sc .«bal_max_seen» ≤ b
-rises r source b f = let n = next-given (r .sc .«bal_max_seen») (r .sc .id) b (f .next) in omega (arith, n .made, next-larger (r .sc .«bal_max_seen») (r .sc .id))
-
 -- ── 2.2: what an acceptor has promised only grows ──
 pub seen-never-falls : (r : Replica) (room : ℕ) (c : Call) → r .sc .«bal_max_seen» ≤ step r room c .replica .sc .«bal_max_seen»
 unfolding of loggedOn decideOffer movedExec
@@ -75,7 +71,7 @@ seen-never-falls r room c = go c
     go (callAccept peer slot ballot b) = acceptStep-ways (of (seesNoLess r)) r room peer slot ballot b (λ a l. same) (λ f. follows (r .sc) peer ballot)
     go (callAcceptReply peer slot ballot) = acceptReplyStep-ways (of (seesNoLess r)) r room peer slot ballot (λ a l. same) (λ f q. same) (λ f q. same)
     go (callCommitNotice peer ballot bar) = commitNoticeStep-ways (of (seesNoLess r)) r room peer ballot bar (λ a l. same) (λ f. same)
-    go (callTimeout source) = timeoutStep-ways (of (seesNoLess r)) r room source (λ a l. same) (λ b f. rises r source b f)
+    go (callTimeout source) = timeoutStep-ways (of (seesNoLess r)) r room source (λ a l. same) (λ b f. omega (arith, leads-up r source b f))
     go (callLogged d) =
         logged-way (seesNoLess r) r d room (λ a l u. same)
         (λ f. record {

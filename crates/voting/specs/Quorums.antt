@@ -68,7 +68,7 @@ module _ (r : Replica) (w : Window) (i peer : ℕ) (s : Slot) (f : fit r ≡ tru
       let same : s .leader .«accept_acks» ≡ acksOf (r .window) i = ap (λ (v : LeaderBook). v .«accept_acks») (b ∙ ap (λ (v : Slot). v .leader) (sym here)) in
       let acks : acksOf (putSlot w i (committedSlot (acknowledgedSlot peer s))) i ≡ insert (acksOf (r .window) i) peer =
       ap (λ (v : Slot). v .leader .«accept_acks») put ∙ ap (λ (v : ℕ). insert v peer) same in
-      let old : fitsGroup (acksOf (r .window) i) (r .sc .group) ≡ true = subst (λ (v : Slot). fitsGroup (v .leader .«accept_acks») (r .sc .group) ≡ true) (sym here) (g .slots i l .accept-acks) in
+      let old : fitsGroup (acksOf (r .window) i) (r .sc .group) ≡ true = subst (λ (v : Slot). fitsGroup (v .leader .«accept_acks») (r .sc .group) ≡ true) (sym here) (g .slots i l .accept) in
       record {
         accepts = ap (λ (v : Slot). v .status) here ∙ sym c ∙ status;
         leading = leading;

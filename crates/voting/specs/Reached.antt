@@ -1,18 +1,17 @@
 -- Every replica that a history reaches from a new one: no slot's ballot is above the largest seen, and who leads leads at a ballot of its own.
 use mathlib.Core.Path.{_≡_, refl, sym, ap, subst, _∙_}
-use mathlib.Core.Bool.{Bool, true, false}
+use mathlib.Core.Bool.{true, false}
 use mathlib.Core.List.{List, [], _∷_}
 use mathlib.Core.Logic.{_↔_}
-use Prim.Native.Nat.{ℕ, zero, suc, _+_, _≤_, _<_}
+use Prim.Native.Nat.{ℕ, _+_, _≤_, _<_}
 use native.Mathlib.Nat.{le-refl}
 use native.Mathlib.Omega.{arith}
 use lib.Dec.{ltb, leb}
-use borrow.Author.Tests.{ltb-true, ltb-false, leb-true, eqb-true, le-ltb}
+use borrow.Author.Tests.{ltb-true, ltb-false, eqb-true, le-ltb}
 use Rattle.base.specs.Pick.{pick-both, pick-cases, and-both}
-use Rattle.base.specs.Find.{any}
 use Rattle.members.specs.Groups.{groupSize}
 use Rattle.members.specs.Ballots.{owns}
-use Rattle.members.specs.Laws.{next-given, next-larger, next-owned, group-bounds}
+use Rattle.members.specs.Laws.{next-given, next-owned, group-bounds}
 use Rattle.batch.specs.declared.Batch.{Batch}
 use Rattle.batch.specs.Batches.{isBatch}
 use Rattle.batch.specs.Keys.{overfull}
@@ -33,13 +32,14 @@ use Rattle.replica.specs.Leadership.{firstOpen}
 use Rattle.replica.specs.Durability.{passStop, loggedOn}
 use Rattle.replica.specs.Added.{movedExec}
 use Rattle.replica.specs.Step.{Call, callPrepare, callPrepareReply, callAccept, callAcceptReply, callCommitNotice, callTimeout, callLogged, callOffer, callExecuted, callOpenRead, callReadReply, step}
+use Rattle.laws.specs.OfBase.{any-nowhere}
 use Rattle.laws.specs.OfFit.{fit-facts}
 use Rattle.laws.specs.Windows.{grown-most, grown-has, top-within, sweep-long, appended-long}
 use Rattle.laws.specs.Counts.{heard-long, counted-long}
 use Rattle.laws.specs.ByPlace.{atPlace, put-keeps, put-cases, sweep-keeps, sweep-cases, grown-at, appended-cases, at-here, at-past}
 use Rattle.laws.specs.WaysMessages.{Peer, Prepares, prepareEnd, prepared, prepareStep-ways, Accepts, accepted, acceptStep-ways, acceptReplyStep-ways}
-use Rattle.laws.specs.WaysReply.{replyWindow, replySlot, heardWindow, countedWindow, Answers}
-use Rattle.laws.specs.WaysLeadership.{leadWindow, leadTrigger, leadEnd, leadFrom, Leads, timeoutStep-ways, markWindow, markFrom, markEnd, marked, Marks, commitNoticeStep-ways}
+use Rattle.laws.specs.WaysReply.{replyWindow, replySlot, heardWindow, countedWindow, Answers, reply-place}
+use Rattle.laws.specs.WaysLeadership.{leadWindow, leadTrigger, leadEnd, leadFrom, Leads, timeoutStep-ways, markWindow, markFrom, markEnd, marked, Marks, commitNoticeStep-ways, leads-up}
 use Rattle.laws.specs.WaysDurability.{logged, loggedAt, passFrom}
 use Rattle.laws.specs.WaysAdded.{Offers, offered, offerStep-ways, executedStep-ways}
 use Rattle.voting.specs.Windows.{Whole, whole-put, whole-sweep, whole-grown}
@@ -100,7 +100,7 @@ module _ (r : Replica) (peer : ℕ) (m : Reply) (g : Good (r .sc) (r .window)) w
   wide-low : Answers r m → (i : ℕ) → atPlace (replyWindow r m) i .ballot ≤ r .sc .«bal_max_seen»
   wide-low f i =
       appended-cases (λ (x : Slot). x .ballot ≤ r .sc .«bal_max_seen») r (place (r .sc) (m .trigger)) (place (r .sc) (m .slot)) i
-      (let u = f .high in let x = f .low in let y = f .from in let z = g .whole in omega arith) (λ l. g .sent) (g .slots i)
+      (let u = reply-place r m f in let z = g .whole in omega arith) (λ l. g .sent) (g .slots i)
 
   weighed-same : (i : ℕ) → atPlace (heardWindow r m) i .ballot ≡ atPlace (replyWindow r m) i .ballot
   weighed-same i = put-keeps ballot-of (replyWindow r m) (place (r .sc) (m .slot)) i _ (heard-keeps ballot-of (replySlot r m) m refl)
@@ -153,7 +153,7 @@ step-up-good : (r : Replica) (source b : ℕ) → Good (r .sc) (r .window) → L
     (leadWindow r))
 step-up-good r source b g f =
     let n = next-given (r .sc .«bal_max_seen») (r .sc .id) b (f .next) in
-    let up : r .sc .«bal_max_seen» ≤ b = omega (arith, n .made, next-larger (r .sc .«bal_max_seen») (r .sc .id)) in
+    let up : r .sc .«bal_max_seen» ≤ b = omega (arith, leads-up r source b f) in
     let w = whole-grown (r .window) (firstOpen (r .window) + 1) (g .whole) in
     let k : leadWindow r .len ≤ 64 = grown-most (r .window) (firstOpen (r .window) + 1) 64 (fit-facts r (f .fits) .numbers .window) (omega (arith, f .room)) in
     let at : (i : ℕ) → atPlace (leadWindow r) i .ballot ≤ r .sc .«bal_max_seen» =
@@ -285,13 +285,6 @@ good-new id group start options =
     (λ t e. absurd (omega arith))
 
 -- ── on every such replica a Prepare or an Accept is never refused with 6, and acts exactly at a ballot that is not below the largest seen ──
-any-nowhere : (p : ℕ → Bool) (from to : ℕ) → ((i : ℕ) → from ≤ i → i < to → p i ≡ false) → any p from to ≡ false
-any-nowhere p from zero h = refl
-any-nowhere p from (suc j) h =
-    pick-cases (λ (x : Bool). x ≡ false) (leb from j)
-    (λ t. rw (h j (leb-true from j t) (le-refl (suc j))) (any-nowhere p from j (λ i l u. h i l (omega arith))))
-    (λ t. any-nowhere p from j (λ i l u. h i l (omega arith)))
-
 pub never-high : (r : Replica) (trigger ballot : ℕ) → Good (r .sc) (r .window) → trigger < r .sc .start + 64 → r .sc .«bal_max_seen» ≤ ballot
     → prepareHigh r trigger ballot ≡ false
 never-high r trigger ballot g u l =

@@ -9,7 +9,7 @@ use native.Mathlib.Omega.{arith}
 use lib.Dec.{ltb, leb, eqb}
 use lib.ListN.{length}
 use borrow.Author.Tests.{eq-eqb, ne-eqb}
-use Rattle.base.specs.Pick.{pick, pick-both, pick-cases, tests, same?, clash}
+use Rattle.base.specs.Pick.{pick, pick-both, same?, clash}
 use Rattle.base.specs.Among.{All, all-append, all-map}
 use Rattle.batch.specs.declared.Batch.{Batch}
 use Rattle.actions.specs.declared.Says.{Says}
@@ -18,7 +18,7 @@ use Rattle.slots.specs.declared.Vote.{Vote}
 use Rattle.slots.specs.declared.Slot.{Slot}
 use Rattle.slots.specs.Slots.{noVote, newBook, redoneSlot, preparedSlot, enteredSlot, markedSlot, passedSlot, acceptedSlot, loggedSlot, withState, withLeader, withExternal, committed, executed, preparing}
 use Rattle.decide.specs.declared.Scalars.{Scalars}
-use Rattle.decide.specs.Scalars.{stepsDown, followed, withBallots}
+use Rattle.decide.specs.Scalars.{stepsDown, followed}
 use Rattle.decide.specs.Decide.{decideOffer}
 use Rattle.replica.specs.declared.Window.{Window}
 use Rattle.replica.specs.declared.Replica.{Replica}
@@ -30,11 +30,12 @@ use Rattle.replica.specs.Leadership.{firstOpen}
 use Rattle.replica.specs.Durability.{passStop, loggedOn}
 use Rattle.replica.specs.Added.{movedExec}
 use Rattle.replica.specs.Step.{Call, callPrepare, callPrepareReply, callAccept, callAcceptReply, callCommitNotice, callTimeout, callLogged, callOffer, callExecuted, callOpenRead, callReadReply, step}
+use Rattle.laws.specs.OfScalars.{followed-seen}
 use Rattle.laws.specs.OfFit.{fit-facts}
 use Rattle.laws.specs.Windows.{grown-has, grown-most}
 use Rattle.laws.specs.ByPlace.{atPlace, put-keeps, put-at, put-elsewhere, sweep-keeps, grown-at, appended-cases, at-here, at-past}
 use Rattle.laws.specs.WaysMessages.{prepareWindow, prepareEnd, prepareStep-ways, Accepts, acceptStep-ways, acceptReplyStep-ways}
-use Rattle.laws.specs.WaysReply.{replyWindow, replySlot, heardWindow, countedWindow, Answers}
+use Rattle.laws.specs.WaysReply.{replyWindow, replySlot, heardWindow, countedWindow, Answers, reply-place}
 use Rattle.laws.specs.WaysLeadership.{leadWindow, leadTrigger, leadEnd, leadFrom, timeoutStep-ways, markWindow, markFrom, markEnd, commitNoticeStep-ways}
 use Rattle.laws.specs.WaysDurability.{logged, loggedAt, passFrom}
 use Rattle.laws.specs.WaysAdded.{Offers, offerWindow, offerStep-ways, executedStep-ways}
@@ -92,7 +93,7 @@ redone-vote ballot trigger endprep s =
 module _ (w : Window) (r : Replica) (peer : ℕ) (m : Reply) (h : Whole (r .window)) (e : (i : ℕ) → atPlace (r .window) i .vote ≡ atPlace w i .vote) where
   wide : Answers r m → (i : ℕ) → atPlace (replyWindow r m) i .vote ≡ atPlace w i .vote
   wide f i =
-      appended-cases (λ (x : Slot). x .vote ≡ atPlace w i .vote) r (place (r .sc) (m .trigger)) (place (r .sc) (m .slot)) i (let u = f .high in let x = f .low in let y = f .from in omega arith)
+      appended-cases (λ (x : Slot). x .vote ≡ atPlace w i .vote) r (place (r .sc) (m .trigger)) (place (r .sc) (m .slot)) i (let u = reply-place r m f in omega arith)
       (λ l. ap vote (sym (at-past (r .window) i l)) ∙ e i) (e i)
 
   weigh : Answers r m → (i : ℕ) → atPlace (heardWindow r m) i .vote ≡ atPlace w i .vote
@@ -286,11 +287,6 @@ ballot-none : (r : Replica) (slot s : ℕ) (v : Vote) (a n : ℕ)
     → All (λ (x : Vote). (r .sc .«bal_max_seen» ≤ x .ballot) × (x .ballot ≡ n)) (pick (eqb slot s && (eqb a 0 && false)) (v ∷ []) [])
 ballot-none r slot s v a n = rw (and-false (eqb a 0), and-false (eqb slot s)) tt
 
-follow-seen : (sc : Scalars) (peer ballot : ℕ) → sc .«bal_max_seen» ≤ ballot → ballot ≡ followed sc peer ballot .«bal_max_seen»
-follow-seen sc peer ballot l =
-    pick-cases (λ (x : Scalars). ballot ≡ x .«bal_max_seen») (ltb (sc .«bal_max_seen») ballot) {a = withBallots sc peer (sc .«bal_prep_sent») (sc .«bal_prepared») ballot} {b = sc}
-    (λ t. refl) (λ t. omega (arith, tests))
-
 step-took-ballot : (r : Replica) (room peer slot ballot s : ℕ) (b : Batch)
     → of (tookBallot r slot s (record { ballot = ballot; batch = clean b })) (step r room (callAccept peer slot ballot b))
 unfolding of
@@ -301,7 +297,7 @@ step-took-ballot r room peer slot ballot s b =
     (eqb slot s && (eqb 0 0 && ltb 0 (length (saysActs (acceptSays (r .sc) slot ballot b) (clean b .keys)))))
     {a = record { ballot = ballot; batch = clean b } ∷ []}
     {b = []}
-    ((f .seen, follow-seen (r .sc) peer ballot (f .seen)), tt) tt)
+    ((f .seen, sym (followed-seen (r .sc) peer ballot (f .seen))), tt) tt)
 
 -- what a call takes is not below the largest ballot seen before it, and is the largest seen after it
 pub takes-largest : (r : Replica) (room : ℕ) (k : Call) (s : ℕ) → All (between r (step r room k .replica)) (takes r (record { room = room; call = k }) s)
