@@ -1,6 +1,6 @@
 -- The laws of a room with actions written into it.
 use mathlib.Core.Path.{_≡_, refl, sym, ap, _∙_}
-use mathlib.Core.Bool.{Bool, true, false, _||_}
+use mathlib.Core.Bool.{Bool, true, false, _||_, or-true}
 use mathlib.Core.List.{List, [], _∷_, _++_, append-assoc, append-nil}
 use Prim.Native.Nat.{ℕ, _+_, _*_, _≤_, _<_}
 use native.Mathlib.Nat.{add-zero, zero-add}
@@ -95,11 +95,6 @@ pub rest-stays : (room : List ℕ) (acts : List Act) → drop (18 * length acts)
 unfolding writeActions
 rest-stays room acts = drop-at (flat acts) (drop (18 * length acts) room) (18 * length acts) (length-flat acts)
 
--- where the second of two tests holds
-pub or-right : (t : Bool) → (t || true) ≡ true
-or-right true = refl
-or-right false = refl
-
 -- an action at a place of the room that there is
 pub put-in : (room : List ℕ) (k : ℕ) (a : Act) → k < 192 → 3456 ≤ length room → putAct room k a ≡ writeAt room k (a ∷ [])
 unfolding putAct
@@ -112,7 +107,7 @@ put-past room k a h = rw (le-leb 192 k h)
 
 pub put-short : (room : List ℕ) (k : ℕ) (a : Act) → length room < 3456 → putAct room k a ≡ room
 unfolding putAct
-put-short room k a h = rw (lt-ltb (length room) 3456 h, or-right (leb 192 k))
+put-short room k a h = rw (lt-ltb (length room) 3456 h, or-true (leb 192 k))
 
 pub length-put : (room : List ℕ) (k : ℕ) (a : Act) → length (putAct room k a) ≡ length room
 unfolding putAct
@@ -177,7 +172,7 @@ module _ (room : List ℕ) (k : ℕ) (says : Says) (keys : List ℕ) where
 
   pub said-short : length room < 3456 → Said room k (saysActs says keys) k room
   unfolding sayActs placeAfter
-  said-short h = record { placed = rw (lt-ltb (length room) 3456 h, or-right (ltb 190 k)); written = rw (lt-ltb (length room) 3456 h, or-right (ltb 190 k)) }
+  said-short h = record { placed = rw (lt-ltb (length room) 3456 h, or-true (ltb 190 k)); written = rw (lt-ltb (length room) 3456 h, or-true (ltb 190 k)) }
 
   module _ (h : k ≤ 190) (l : 3456 ≤ length room) where
     pub said-nothing : says ≡ Nothing → Said room k (saysActs says keys) k room

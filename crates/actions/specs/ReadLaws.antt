@@ -1,6 +1,6 @@
 -- The laws of reading: a row by its kind, and that what was written is read back.
 use mathlib.Core.Path.{_≡_, refl, sym, ap, _∙_}
-use mathlib.Core.Bool.{Bool, true}
+use mathlib.Core.Bool.{Bool, true, or-true}
 use mathlib.Core.List.{List, [], _∷_, _++_, append-assoc, append-nil}
 use Prim.Native.Nat.{ℕ, zero, suc, _+_, _*_, _≤_, _<_}
 use native.Mathlib.Nat.{zero-add}
@@ -13,7 +13,7 @@ use Rattle.actions.specs.declared.Action.{Action}
 use Rattle.actions.specs.declared.Action.the-variants.{PrepareBal, AcceptData, CommitSlot, Prepare, PrepareReply, Accept, AcceptReply, CommitNotice, Heartbeat, StatusUp, StatusDown, Execute, ReadAnswer}
 use Rattle.actions.specs.Actions.{Act, act, eightOf, keysFor, numbersOf, flat, writeAt, writeActions, putAct}
 use Rattle.actions.specs.Reading.{actionOf, rowAction, rowKeys, isKind, nothingRead, readRow, readAct}
-use Rattle.actions.specs.Laws.{length-numbers, put-in, length-put, length-front, paste-turn, or-right}
+use Rattle.actions.specs.Laws.{length-numbers, put-in, length-put, length-front, paste-turn}
 
 -- a turn of the loop that reads 18 numbers, and what it leaves
 pub copy-turn : (r room zeros : List ℕ) (at j : ℕ) → r ≡ paste zeros 0 (drop at room) j → j < length zeros → at + j < length room
@@ -127,7 +127,7 @@ read-past room k h = rw (le-leb 192 k h)
 
 pub read-short : (room : List ℕ) (k : ℕ) → length room < 3456 → readAct room k ≡ nothingRead
 unfolding readAct
-read-short room k h = rw (lt-ltb (length room) 3456 h, or-right (leb 192 k))
+read-short room k h = rw (lt-ltb (length room) 3456 h, or-true (leb 192 k))
 
 -- the numbers at the place that an action was put at are its own
 pub row-written : (room : List ℕ) (k : ℕ) (a : Act) → 18 * k ≤ length room → take 18 (drop (18 * k) (writeAt room k (a ∷ []))) ≡ numbersOf (a .what) (a .keys)

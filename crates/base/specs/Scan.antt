@@ -6,7 +6,8 @@ use Prim.Native.Nat.{ℕ, zero, suc, _+_, _-_, _≤_, _<_}
 use native.Mathlib.Nat.{le-refl, eq-or-lt-of-le}
 use native.Mathlib.Numerals.{add-one}
 use native.Mathlib.Omega.{arith}
-use Rattle.base.specs.Pick.{pick, pick-cases}
+use lib.Dec.{leb}
+use Rattle.base.specs.Pick.{pick, pick-cases, decide, tests}
 
 module _ (p : ℕ → Bool) where
   abbrev pub scanFor : ℕ → ℕ → ℕ
@@ -62,6 +63,14 @@ module _ (p : ℕ → Bool) where
   pub scan-high : (i end : ℕ) → i ≤ end → scan i end ≤ end
   unfolding scan
   scan-high i end h = omega (arith, scanFor-high (end - i) i)
+
+  -- also where the range is empty
+  pub scan-below : (i end k : ℕ) → i ≤ k → end ≤ k → scan i end ≤ k
+  scan-below i end k a b =
+      ⊎-elim
+      (λ (t : leb i end ≡ true). omega (arith, scan-high i end (omega (arith, tests))))
+      (λ (t : leb i end ≡ false). omega (arith, scan-end i end (omega (arith, tests))))
+      (decide (leb i end))
 
   pub scan-passed : (i end j : ℕ) → i ≤ j → j < scan i end → p j ≡ true
   unfolding scan

@@ -1,6 +1,6 @@
 -- Laws of the highest-slot table: where a key is found, what noting a key does to every key's slot, and how the count grows.
 use mathlib.Core.Path.{_≡_, refl, sym, ap, _∙_}
-use mathlib.Core.Bool.{Bool, true, false, not, _&&_, _||_}
+use mathlib.Core.Bool.{Bool, true, false, not, _&&_, _||_, or-true, or-false}
 use mathlib.Core.Logic.{_⊎_, inl, inr, ⊎-elim}
 use mathlib.Core.List.{List}
 use Prim.Native.Nat.{ℕ, zero, suc, _+_, _≤_, _<_}
@@ -152,17 +152,9 @@ module _ (slot : ℕ) (t : KeyTable) (s : Shaped t) where
   note-knows key other r =
       ⊎-elim
       (λ (p : key ≡ other). rw (eq-eqb key other p, or-true, ← p) (self-known r))
-      (λ n. rw (ne-eqb key other n, or-none) (other-known n))
+      (λ n. rw (ne-eqb key other n, or-false) (other-known n))
       (same? key other)
     where
-      or-true : (a : Bool) → (a || true) ≡ true
-      or-true true = refl
-      or-true false = refl
-
-      or-none : (a : Bool) → (a || false) ≡ a
-      or-none true = refl
-      or-none false = refl
-
       self-known : Room t key → knows (noteKey slot t key) key ≡ true
       self-known r =
           note-cases slot t key (λ (x : KeyTable). knows x key ≡ true) (λ e. e)

@@ -10,7 +10,7 @@ use lib.ListN.{length, length-append}
 use borrow.Author.Tests.{leb-true}
 use Rattle.base.specs.Pick.{pick, pick-cases, pick-both, and-left, tests}
 use Rattle.base.specs.Gather.{gather, length-gather}
-use Rattle.base.specs.Scan.{scan, scan-high, scan-end}
+use Rattle.base.specs.Scan.{scan, scan-high, scan-below}
 use Rattle.tally.specs.declared.Tally.{Tally}
 use Rattle.tally.specs.Open.{smaller}
 use Rattle.actions.specs.declared.Says.{Says}
@@ -68,11 +68,6 @@ notice-few sc bar end =
 
 pub smaller-left : (a b : ℕ) → smaller a b ≤ a
 smaller-left a b = pick-cases (λ (x : ℕ). x ≤ a) (ltb a b) (λ t. le-refl a) (λ t. omega (arith, tests))
-
-pub scan-most : (p : ℕ → Bool) (i end k : ℕ) → i ≤ k → end ≤ k → scan p i end ≤ k
-scan-most p i end k h q =
-    pick-cases (λ (x : ℕ). scan p i end ≤ k) (leb i end) {a = 0} {b = 0} (λ t. omega (arith, tests, scan-high p i end (leb-true i end t)))
-    (λ t. rw (scan-end p i end (omega (arith, tests))) h)
 
 -- ── Prepare ──
 pub prepared-few : (r : Replica) (peer trigger ballot : ℕ) → Prepares r peer trigger ballot
@@ -168,7 +163,7 @@ completes-leaves P r i slot _ _ (completes-report a b) on =
 pub pass-end : (r : Replica) → FitNumbers (r .sc) (r .window .len) → passStop r ≤ 64
 unfolding passStop
 pass-end r f =
-    scan-most (λ i. leb 3 (slotAt (r .window) i .status)) (place (r .sc) (r .sc .«commit_bar»)) (place (r .sc) (r .sc .«accept_bar»)) 64 (omega arith) (omega arith)
+    scan-below (λ i. leb 3 (slotAt (r .window) i .status)) (place (r .sc) (r .sc .«commit_bar»)) (place (r .sc) (r .sc .«accept_bar»)) 64 (omega arith) (omega arith)
 
 pub passed-few : (r : Replica) → FitNumbers (r .sc) (r .window .len)
     → length

@@ -6,7 +6,7 @@ use Prim.Native.Nat.{ℕ, _+_, _≤_, _<_}
 use native.Mathlib.Omega.{arith}
 use lib.Dec.{leb, eqb}
 use Rattle.base.specs.Pick.{pick-both}
-use Rattle.base.specs.Scan.{scan, scan-low, scan-high}
+use Rattle.base.specs.Scan.{scan, scan-low, scan-high, scan-below}
 use Rattle.actions.specs.Actions.{Act}
 use Rattle.slots.specs.Slots.{passedSlot, acknowledgedSlot}
 use Rattle.replica.specs.declared.Replica.{Replica}
@@ -17,7 +17,7 @@ use Rattle.replica.specs.Durability.{ownReply, movedAccept, passStop, loggedOn,
 use Rattle.replica.specs.Step.{Call, callPrepare, callPrepareReply, callAccept, callAcceptReply, callCommitNotice, callTimeout, callLogged, callOffer, callExecuted, callOpenRead, callReadReply, step}
 use Rattle.laws.specs.Leaves.{orKept-ways}
 use Rattle.laws.specs.WaysDurability.{Logs, logged, loggedAt, Completes, completes-silent, completes-more, completes-commit, completes-report, passed, passFrom, loggedStep-ways}
-use Rattle.laws.specs.Counts.{scan-most, logged-numbers, logged-fixed}
+use Rattle.laws.specs.Counts.{logged-numbers, logged-fixed}
 use Rattle.laws.specs.Good.{Good, good-after}
 use Rattle.laws.specs.GoodSlots.{good-acknowledged, good-committed, good-logged, good-passed, good-sent, good-put, good-sweep}
 use Rattle.laws.specs.GoodParts.{numbers-moved}
@@ -47,7 +47,7 @@ module _ (Z : Type 0) (r : Replica) (g : Good Z r) where
       let f = g .numbers in
       good-after Z r _ (record { id = refl; group = refl; start = refl; options = refl })
       (numbers-moved (r .sc) (r .window .len) (g .numbers) (r .sc .«accept_bar») (number (r .sc) (scan p from to)) (r .sc .«exec_bar») (r .sc .«wal_offset») (r .sc .«peer_accept_max»)
-      (f .exec) (omega (arith, scan-low p from to)) (omega (arith, scan-most p from to (r .window .len) (omega arith) (omega arith))) (f .accept) (f .accept-log))
+      (f .exec) (omega (arith, scan-low p from to)) (omega (arith, scan-below p from to (r .window .len) (omega arith) (omega arith))) (f .accept) (f .accept-log))
       (good-sweep Z (r .sc .group) (λ i s. passedSlot s) (passFrom r) (passStop r) (r .window) (λ i s q. good-passed Z (r .sc .group) s q) (g .window)) (g .keys) (g .reads) (g .bars)
 
   completed-good : (i slot : ℕ) (after : Replica) (acts : List Act) → i < r .window .len → Completes r i slot after acts → Good Z after

@@ -1,7 +1,6 @@
 -- The laws of a log completion: each way through its functions, and that a refusal by the entry's handler leaves the room as it was.
 use mathlib.Core.Path.{_≡_, refl, sym, ap, _∙_}
 use mathlib.Core.Bool.{Bool, true, false, not, _&&_, and-false}
-use mathlib.Core.Logic.{⊎-elim}
 use mathlib.Core.List.{List, [], _∷_, _++_}
 use Prim.Native.Nat.{ℕ, _+_, _-_, _≤_, _<_}
 use native.Mathlib.Nat.{add-zero, zero-add}
@@ -9,9 +8,9 @@ use native.Mathlib.Omega.{arith}
 use lib.Dec.{ltb, leb, eqb}
 use lib.ListN.{length, set, length-append}
 use borrow.Author.Tests.{lt-ltb, le-ltb, le-leb, lt-leb, eq-eqb, ne-eqb, eqb-true}
-use Rattle.base.specs.Pick.{pick, pick-both, pick-cases, decide, tests}
+use Rattle.base.specs.Pick.{pick, pick-both, pick-cases, tests}
 use Rattle.base.specs.Gather.{gather}
-use Rattle.base.specs.Scan.{scan, scan-low, scan-high, scan-end}
+use Rattle.base.specs.Scan.{scan, scan-low, scan-below}
 use Rattle.batch.specs.declared.Batch.{Batch}
 use Rattle.batch.specs.Keys.{overfull}
 use Rattle.actions.specs.declared.Action.the-variants.{CommitNotice}
@@ -89,14 +88,6 @@ module _ (sc : Scalars) (bar end : ℕ) where
         record { next = rw s; written = rw s w }
 
 -- ── commit_bar ──
--- where a search that may be of no range stops
-pub scan-below : (p : ℕ → Bool) (from to k : ℕ) → from ≤ k → to ≤ k → scan p from to ≤ k
-scan-below p from to k a b =
-    ⊎-elim
-    (λ (t : leb from to ≡ true). omega (arith, scan-high p from to (omega (arith, tests))))
-    (λ (t : leb from to ≡ false). omega (arith, scan-end p from to (omega (arith, tests))))
-    (decide (leb from to))
-
 module _ (r : Replica) (from stop : ℕ) where
   abbrev passedWith : Scalars → Window → Replica
   passedWith sc w = record { sc = sc; bars = r .bars; window = w; keys = r .keys; reads = r .reads }
