@@ -150,29 +150,39 @@ play-append : (r : Replica) (h : List Lent) (c : Lent) → play r (h ++ (c ∷ [
 play-append r [] c = refl
 play-append r (x ∷ h) c = play-append (told r x .replica) h c
 
--- 2.2, phase 2 (a): from a replica reached from a new one, over any history, each Accept that a reply makes a leader send is of a slot s and a
--- batch b: where nothing was heard of s at the start (Choice.step-up-unheard, absent-unheard) and self led through all of it at one ballot, b is
--- the paper's choice among the votes heard, else what the slot held at the start
+-- 2.2, phase 2 (a), of an Accept at a ballot that the last call c of a history gives: it is of a slot s and a batch b; where nothing was heard of s
+-- at the start (Choice.step-up-unheard, absent-unheard) and self led through all of it at one ballot, b is the paper's choice among the votes heard,
+-- else what the slot held at the start
+abbrev pub WithChoice : Replica → List Lent → Lent → ℕ → Act → Type 0
+WithChoice r h c ballot x =
+    (s : ℕ) × (b : Batch) × (x ≡ act (Accept (proposal s ballot b)) (b .keys))
+    × (heldAt r s .ballot ≡ 0 → Reign r (h ++ (c ∷ [])) s → Choice (heldAt r s .batch) (heardIn r (h ++ (c ∷ [])) s) b)
+
+entered-with-choice : (r : Replica) (h : List Lent) (c : Lent) (ballot : ℕ) → Good (r .sc) (r .window) → (x : Act)
+    → Entered (play r h) ballot (told (play r h) c .replica .window) x → WithChoice r h c ballot x
+entered-with-choice r h c ballot g x (i, l, t, e) =
+    let n : ℕ = number (play r h .sc) i in
+    let same : n - told (play r h) c .replica .sc .start ≡ i = omega (arith, step-core (play r h) c .start) in (
+      n,
+      atPlace (told (play r h) c .replica .window) i .batch,
+      e,
+      λ z q.
+          subst (λ (b : Batch). Choice (heldAt r n .batch) (heardIn r (h ++ (c ∷ [])) n) b)
+          (ap (λ (y : Replica). heldAt y n .batch) (play-append r h c) ∙ ap (λ (y : ℕ). atPlace (told (play r h) c .replica .window) y .batch) same)
+          (choice r (h ++ (c ∷ [])) n g (omega (arith, play-grows r h .start)) z q),
+    )
+
+-- from a replica reached from a new one, over any history: each Accept that an arriving reply makes a leader send
 pub enters-with-choice : (r : Replica) (h : List Lent) (room peer : ℕ) (m : Reply) → Good (r .sc) (r .window) → (x : Act)
     → x ∈ step (play r h) room (callPrepareReply peer m) .actions → kindOf x ≡ 6
-    → (s : ℕ) × (b : Batch) × (x ≡ act (Accept (proposal s (m .ballot) b)) (b .keys))
-    × (heldAt r s .ballot ≡ 0 → Reign r (h ++ (record { room = room; call = callPrepareReply peer m } ∷ [])) s
-    → Choice (heldAt r s .batch) (heardIn r (h ++ (record { room = room; call = callPrepareReply peer m } ∷ [])) s) b)
-enters-with-choice r h room peer m g x o k = go (reply-enters-with (play r h) room peer m (good-play r h g .whole) x o k)
-  where
-    go : Entered (play r h) (m .ballot) (step (play r h) room (callPrepareReply peer m) .replica .window) x
-        → (s : ℕ) × (b : Batch) × (x ≡ act (Accept (proposal s (m .ballot) b)) (b .keys))
-        × (heldAt r s .ballot ≡ 0 → Reign r (h ++ (record { room = room; call = callPrepareReply peer m } ∷ [])) s
-        → Choice (heldAt r s .batch) (heardIn r (h ++ (record { room = room; call = callPrepareReply peer m } ∷ [])) s) b)
-    go (i, l, t, e) =
-        let n : ℕ = number (play r h .sc) i in
-        let c : Lent = record { room = room; call = callPrepareReply peer m } in
-        let same : n - told (play r h) c .replica .sc .start ≡ i = omega (arith, step-core (play r h) c .start) in (
-          n,
-          atPlace (step (play r h) room (callPrepareReply peer m) .replica .window) i .batch,
-          e,
-          λ z q.
-              subst (λ (b : Batch). Choice (heldAt r n .batch) (heardIn r (h ++ (c ∷ [])) n) b)
-              (ap (λ (y : Replica). heldAt y n .batch) (play-append r h c) ∙ ap (λ (y : ℕ). atPlace (told (play r h) c .replica .window) y .batch) same)
-              (choice r (h ++ (c ∷ [])) n g (omega (arith, play-grows r h .start)) z q),
-        )
+    → WithChoice r h (record { room = room; call = callPrepareReply peer m }) (m .ballot) x
+enters-with-choice r h room peer m g x o k =
+    entered-with-choice r h _ (m .ballot) g x (reply-enters-with (play r h) room peer m (good-play r h g .whole) x o k)
+
+-- and each that its own reply makes it send, at the end of its PrepareBal entry
+pub own-enters-with-choice : (r : Replica) (h : List Lent) (room slot size : ℕ) → Good (r .sc) (r .window) → (x : Act)
+    → x ∈ step (play r h) room (callLogged (record { entry = PrepareBal; slot = slot; size = size })) .actions → kindOf x ≡ 6
+    → WithChoice r h (record { room = room; call = callLogged (record { entry = PrepareBal; slot = slot; size = size }) })
+    (ownAnswer (play r h) (record { entry = PrepareBal; slot = slot; size = size }) .ballot) x
+own-enters-with-choice r h room slot size g x o k =
+    entered-with-choice r h _ _ g x (own-enters-with (play r h) room slot size (good-play r h g .whole) x o k)

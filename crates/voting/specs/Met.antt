@@ -1,6 +1,6 @@
 -- The theorems' hypotheses are met: runs from a new replica, computed.
 use mathlib.Core.Path.{_≡_, refl}
-use mathlib.Core.List.{List, [], _∷_}
+use mathlib.Core.List.{List, [], _∷_, _++_, map}
 use mathlib.Core.Logic.{inr}
 use Prim.Native.Nat.{ℕ}
 use Rattle.base.specs.Scan.{scan}
@@ -23,6 +23,7 @@ use Rattle.laws.specs.ByPlace.{atPlace}
 use Rattle.voting.specs.History.{Lent, told, play}
 use Rattle.voting.specs.Reached.{Good, good-new}
 use Rattle.voting.specs.Votes.{voteOf, taken}
+use Rattle.voting.specs.Quorums.{kindOf}
 use Rattle.voting.specs.Heard.{Reign, heardIn, heldAt, best}
 use Rattle.voting.specs.Differences.{voting, batchOf}
 use mathlib.Core.Bool.{false}
@@ -91,3 +92,21 @@ best-met = refl
 pub choice-met : numbersIn (heldAt stepped 0 ∷ heldAt (play stepped answers) 0 ∷ []) ≡ 0 ∷ 0 ∷ 5 ∷ 8 ∷ []
 unfolding atPlace answers newReplica fit fitScalars fitSlots fitReads fitSlot grown noting settled appended countedOn votedOn repliedOn replyOn prepareReplyStep firstOpen lastOpen leadOn stepUp timeoutStep preparedDone loggedOn loggedStep decideVote decideCount notAbove leastMajority withBar withFallen has insert count countIn makeBatch noteKey noteKeys newKeys placeIn overfullIn scan
 choice-met = refl
+
+-- ── the leader's own entry makes the quorum: 1 and 3 have answered, and its own completion sends the Accept ──
+abbrev pub ownEntry : Lent
+ownEntry = lend (callLogged (record { entry = PrepareBal; slot = 0; size = 40 }))
+
+unfoldable pub ownLast : List Lent
+ownLast = lend (callPrepareReply 1 (voting 0 0 257 3 9)) ∷ lend (callPrepareReply 3 (voting 0 0 257 4 7)) ∷ []
+
+pub own-reign-met : Reign stepped (ownLast ++ (ownEntry ∷ [])) 0
+unfolding ownLast newReplica fit fitScalars fitSlots fitReads fitSlot grown noting settled appended countedOn votedOn repliedOn replyOn prepareReplyStep firstOpen lastOpen leadOn stepUp timeoutStep preparedDone loggedOn loggedStep decideVote decideCount notAbove leastMajority withBar withFallen has insert count countIn makeBatch noteKey noteKeys newKeys placeIn overfullIn scan
+own-reign-met = (
+  record { leading = refl; leads-on = refl; same = refl; here = inr refl },
+  (record { leading = refl; leads-on = refl; same = refl; here = inr refl }, (record { leading = refl; leads-on = refl; same = refl; here = inr refl }, tt)),
+)
+
+pub own-sends : map kindOf (told (play stepped ownLast) ownEntry .actions) ≡ 2 ∷ 6 ∷ []
+unfolding ownLast newReplica fit fitScalars fitSlots fitReads fitSlot grown noting settled appended countedOn votedOn repliedOn replyOn prepareReplyStep firstOpen lastOpen leadOn stepUp timeoutStep preparedDone loggedOn loggedStep decideVote decideCount notAbove leastMajority withBar withFallen has insert count countIn makeBatch noteKey noteKeys newKeys placeIn overfullIn scan
+own-sends = refl
