@@ -10,11 +10,9 @@ ghost use Prim.Native.Nat.{_≤_};
 ghost use lib.ListN.{length};
 use lent::merged;
 use line::put_line;
-use tally::Best;
-use tally::Held;
-use tally::KeyBest;
 use tally::Merged;
 use tally::Tally;
+use tally::listed::listed;
 use tally::open_reads::nothing_known;
 use trace::Record;
 
@@ -22,44 +20,6 @@ use trace::Record;
 struct Run {
     tally: Tally,
     place: usize,
-}
-
-// 01's tag, slot and value.
-fn best_of(tag: u64, slot: u64, value: u64) -> KeyBest {
-    if tag == 0 {
-        return KeyBest {
-            best: Best::Nothing,
-        };
-    }
-    if tag == 1 {
-        return KeyBest {
-            best: Best::Slot(slot),
-        };
-    }
-    KeyBest {
-        best: Best::Value(Held {
-            slot: slot,
-            value: value,
-        }),
-    }
-}
-
-// The list of a reply.
-fn reply_of(rec: Record) -> Tally {
-    let e = rec.entries;
-    Tally {
-        count: rec.count,
-        bests: [
-            best_of(e[0], e[1], e[2]),
-            best_of(e[3], e[4], e[5]),
-            best_of(e[6], e[7], e[8]),
-            best_of(e[9], e[10], e[11]),
-            best_of(e[12], e[13], e[14]),
-            best_of(e[15], e[16], e[17]),
-            best_of(e[18], e[19], e[20]),
-            best_of(e[21], e[22], e[23]),
-        ],
-    }
 }
 
 fn told(run: Run, m: Merged, text: &mut [u8]) -> Run {
@@ -82,7 +42,8 @@ fn taken(run: Run, rec: Record, text: &mut [u8]) -> Run {
     }
     if rec.kind == 11 && rec.sub == 0 {
         let held = run.tally;
-        let reply = reply_of(rec);
+        let entries = rec.entries;
+        let reply = listed(rec.count, entries);
         let m = merged(held, reply);
         return told(run, m, text);
     }

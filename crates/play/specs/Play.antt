@@ -1,15 +1,12 @@
 -- One record of a trace, played on a replica. 01, "The trace program".
 use mathlib.Core.Bool.{Bool}
-use mathlib.Core.List.{List, [], _∷_}
-use Prim.Native.Nat.{ℕ, _*_, _+_}
+use mathlib.Core.List.{List}
+use Prim.Native.Nat.{ℕ}
 use lib.Dec.{eqb}
-use lib.ListN.{getD}
 use Rattle.base.specs.Pick.{pick}
 use Rattle.batch.specs.declared.Batch.{Batch}
-use Rattle.tally.specs.declared.Best.{Best}
-use Rattle.tally.specs.declared.Best.the-variants.{Nothing, Slot, Value}
-use Rattle.tally.specs.declared.KeyBest.{KeyBest}
 use Rattle.tally.specs.declared.Tally.{Tally}
+use Rattle.tally.specs.Listed.{listed}
 use Rattle.replica.specs.declared.Replica.{Replica}
 use Rattle.replica.specs.declared.Handled.{Handled}
 use Rattle.replica.specs.declared.Reply.{Reply}
@@ -25,18 +22,9 @@ use Rattle.trace.specs.Records.{keysOf, malformed, recordAt, sumRight}
 abbrev pub batchOf : Record → Batch
 batchOf d = record { id = d .batch; count = d .count; keys = keysOf d }
 
--- "tag (0 nothing, 1 slot, 2 value), slot, value"
-abbrev pub bestFrom : ℕ → ℕ → ℕ → KeyBest
-bestFrom tag slot value =
-    record { best = pick (eqb tag 0) Nothing (pick (eqb tag 1) (Slot slot) (Value (record { slot = slot; value = value }))) }
-
-abbrev pub bestOf : List ℕ → ℕ → KeyBest
-bestOf entries i = bestFrom (getD entries (3 * i) 0) (getD entries (3 * i + 1) 0) (getD entries (3 * i + 2) 0)
-
+-- the list of a read reply
 abbrev pub tallyOf : Record → Tally
-tallyOf d =
-    let e : List ℕ = d .entries in
-    record { count = d .count; bests = bestOf e 0 ∷ bestOf e 1 ∷ bestOf e 2 ∷ bestOf e 3 ∷ bestOf e 4 ∷ bestOf e 5 ∷ bestOf e 6 ∷ bestOf e 7 ∷ [] }
+tallyOf d = listed (d .count) (d .entries)
 
 -- "2 PrepareReply (sub 1 = voted)"
 abbrev pub replyOf : Record → Reply

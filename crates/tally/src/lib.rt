@@ -1,6 +1,7 @@
 // Read tallies: what a replica knows of the keys of each open read (quorumread.rs, handle_msg_read_query_reply).
 
 pub mod kept;
+pub mod listed;
 pub mod merge;
 pub mod open_reads;
 

@@ -1,6 +1,6 @@
 use borrow.Author.Needs.{needs}
-use Rattle.play.proofs.fields.tally_of.Statement.{statement}
-use Rattle.play.proofs.fields.tally_of.Tie as tie
+use Rattle.tally.proofs.listed.listed.Statement.{statement}
+use Rattle.tally.proofs.listed.listed.Tie as tie
 
 best-of-requires : tie.Need-best-of-requires
 best-of-requires c κs = search needs
@@ -39,8 +39,8 @@ returns c =
       c .best-of8 .ensures,
     )
 
-pub tally-of-spec : {M : Type 1} → statement M
-tally-of-spec =
+pub listed-spec : {M : Type 1} → statement M
+listed-spec =
     tie.close
     (tie.spec
     best-of-requires

@@ -1,6 +1,6 @@
 use borrow.Author.Tests.{eq-eqb, ne-eqb}
-use Rattle.play.proofs.fields.best_from.Statement.{statement}
-use Rattle.play.proofs.fields.best_from.Tie as tie
+use Rattle.tally.proofs.listed.best_from.Statement.{statement}
+use Rattle.tally.proofs.listed.best_from.Tie as tie
 
 returns : tie.Need-returns
 returns c = simp (eq-eqb _ _ (c .if1 .taken))
