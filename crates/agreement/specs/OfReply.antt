@@ -17,11 +17,11 @@ use Rattle.slots.specs.declared.Slot.{Slot}
 use Rattle.slots.specs.Slots.{preparing, countedSlot, enteredSlot}
 use Rattle.decide.specs.declared.Scalars.{Scalars}
 use Rattle.decide.specs.declared.PeerBars.{PeerBars}
+use Rattle.decide.specs.declared.Reply.{Reply}
 use Rattle.decide.specs.Scalars.{leads, withPeerMax, withPrepared}
 use Rattle.decide.specs.Bars.{withFallen}
 use Rattle.replica.specs.declared.Window.{Window}
 use Rattle.replica.specs.declared.Replica.{Replica}
-use Rattle.replica.specs.declared.Reply.{Reply}
 use Rattle.replica.specs.Record.{place, number, slotAt, putSlot, sweep}
 use Rattle.replica.specs.Messages.{promise, appended, appendActs, enterActs, replyOn, cleanReply, prepareReplyStep}
 use Rattle.replica.specs.Step.{Call}

@@ -15,16 +15,17 @@ use Rattle.batch.specs.declared.Batch.{Batch}
 use Rattle.batch.specs.Batches.{emptyBatch, makeBatch}
 use Rattle.batch.specs.Keys.{placeIn, noteKey, noteKeys, newKeys, overfullIn}
 use Rattle.tally.specs.Merge.{merge}
-use Rattle.tally.specs.Open.{findRead, openRead, closeRead, putRead, replyTo}
+use Rattle.tally.specs.Open.{findRead, openRead, closeRead, putRead, replyTo, fitReads}
 use Rattle.actions.specs.declared.Action.the-variants.{StatusUp}
 use Rattle.actions.specs.Actions.{Act, bare}
 use Rattle.slots.specs.Slots.{fitSlot}
 use Rattle.decide.specs.Bars.{notAbove, leastMajority, withBar, withFallen}
 use Rattle.decide.specs.Decide.{decideAccept, decideAcceptReply, decideVote, decideCount, decidePromised, decideAccepted, decideOffer}
+use Rattle.decide.specs.Scalars.{fitScalars}
 use Rattle.replica.specs.declared.Entry.{Entry}
 use Rattle.replica.specs.declared.Entry.the-variants.{PrepareBal, AcceptData, CommitSlot}
 use Rattle.replica.specs.Record.{newReplica, grown, noting, settled}
-use Rattle.replica.specs.Fit.{fit, fitScalars, fitSlots, fitReads}
+use Rattle.replica.specs.Fit.{fit, fitSlots}
 use Rattle.replica.specs.Messages.{prepareOn, prepareStep, lastUsed, appended, countedOn, votedOn, repliedOn, replyOn, prepareReplyStep, acceptStep, acceptReplyStep}
 use Rattle.replica.specs.Leadership.{firstOpen, lastOpen, leadOn, stepUp, timeoutStep, markOn, markStop, commitNoticeStep}
 use Rattle.replica.specs.Durability.{preparedDone, movedAccept, acceptedDone, passOn, passStop, committedDone, loggedOn, loggedStep}

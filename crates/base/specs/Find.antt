@@ -1,18 +1,22 @@
 -- Searches of a range of indices: whether a test holds somewhere in it (`any`), and the last index below `to` at which it holds (`last`).
-use mathlib.Core.Path.{_≡_, refl, sym, _∙_}
-use mathlib.Core.Bool.{Bool, true, false, true≢false}
+use mathlib.Core.Path.{_≡_, refl, sym, ap, _∙_}
+use mathlib.Core.Bool.{Bool, true, false, not, true≢false}
 use mathlib.Core.Logic.{⊎-elim}
 use Prim.Native.Nat.{ℕ, zero, suc, _+_, _≤_, _<_}
 use native.Mathlib.Nat.{le-refl, eq-or-lt-of-le}
 use native.Mathlib.Numerals.{add-one}
 use native.Mathlib.Omega.{arith}
 use lib.Dec.{leb}
-use borrow.Author.Tests.{le-leb, lt-leb}
-use Rattle.base.specs.Pick.{pick, pick-same, pick-cases}
+use borrow.Author.Tests.{not-true, not-false, le-leb, lt-leb}
+use Rattle.base.specs.Pick.{pick, pick-same, pick-cases, clash}
 
 not-true-is : (t : Bool) → (t ≡ true → ⊥) → t ≡ false
 not-true-is true h = elim (h refl) [ ]
 not-true-is false h = refl
+
+pub twice : (t : Bool) → t ≡ not (not t)
+twice true = refl
+twice false = refl
 
 module _ (p : ℕ → Bool) where
   abbrev pub any : ℕ → ℕ → Bool
@@ -42,6 +46,24 @@ module _ (p : ℕ → Bool) where
   -- what a search that found nothing says of each index
   pub any-false : (from to i : ℕ) → any from to ≡ false → from ≤ i → i < to → p i ≡ false
   any-false from to i e h q = not-true-is (p i) (λ t. true≢false (sym (any-found from i to h q t) ∙ e))
+
+  -- a search for something unfit: a turn that finds it, one that does not, and the end
+  pub search-found : (i to : ℕ) (b : Bool) → i < to → b ≡ not (p i) → not b ≡ true → false ≡ not (any 0 to)
+  search-found i to b l e h = sym (ap not (any-found 0 i to (omega arith) l (flipped (p i) b e h)))
+    where
+      flipped : (x y : Bool) → y ≡ not x → not y ≡ true → x ≡ true
+      flipped true y e h = refl
+      flipped false y e h = absurd (clash e (not-true y h))
+
+  pub search-more : (i : ℕ) (b : Bool) → any 0 i ≡ false → b ≡ not (p i) → not b ≡ false → any 0 (i + 1) ≡ false
+  search-more i b e f h = any-more 0 i (omega arith) e (flipped (p i) b f h)
+    where
+      flipped : (x y : Bool) → y ≡ not x → not y ≡ false → x ≡ false
+      flipped true y e h = absurd (clash (not-false y h) e)
+      flipped false y e h = refl
+
+  pub search-done : (i to : ℕ) → any 0 i ≡ false → i ≡ to → true ≡ not (any 0 to)
+  search-done i to e h = sym (ap not (rw h at e))
 
   -- the last index below `to` at which the test holds, `other` where there is none
   abbrev pub last : ℕ → ℕ → ℕ

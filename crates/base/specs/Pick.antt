@@ -1,11 +1,11 @@
 -- A choice by a test: `pick test a b` is a where the test holds and b where it does not. It reads like an early return.
 use mathlib.Core.Path.{_≡_, refl, sym, _∙_}
-use mathlib.Core.Bool.{Bool, true, false, _&&_, _||_}
+use mathlib.Core.Bool.{Bool, true, false, not, _&&_, _||_}
 use mathlib.Core.Logic.{_⊎_, inl, inr}
 use Prim.Native.Nat.{ℕ, suc, _≤_, _<_}
 use native.Mathlib.Omega.{arith}
 use lib.Dec.{ltb, leb, eqb}
-use borrow.Author.Tests.{ltb-true, ltb-false, leb-true, leb-false, eqb-true, eqb-false}
+use borrow.Author.Tests.{ltb-true, ltb-false, leb-true, leb-false, eqb-true, eqb-false, not-true, not-false}
 
 -- two answers that an equation allows are one: the worth of every promise that is an equation
 pub coincide : {A : Type 0} {d x y : A} → x ≡ d → y ≡ d → x ≡ y
@@ -53,6 +53,13 @@ decide false = inr refl
 
 pub clash : {t : Bool} → t ≡ true → t ≡ false → ⊥
 clash {t} p q = let z : _≡_ {A = ℕ} 0 1 = cc in omega arith
+
+-- a test that a function makes, where the code goes on by its answer
+pub refuted : {t b : Bool} → t ≡ b → not t ≡ true → b ≡ false
+refuted {t} {b} e h = sym e ∙ not-true t h
+
+pub granted : {t b : Bool} → t ≡ b → not t ≡ false → b ≡ true
+granted {t} {b} e h = sym e ∙ not-false t h
 
 pub same? : (a b : ℕ) → (a ≡ b) ⊎ (a ≡ b → ⊥)
 same? a b = go (eqb a b) refl

@@ -82,3 +82,10 @@ overfullIn used count b = ltb 256 (count + newKeys used count (b .keys) (keyCoun
 
 abbrev pub overfull : KeyTable → Batch → Bool
 overfull t b = overfullIn (t .keys) (t .count) b
+
+-- a batch that is not noted asks for no room, and leaves the table as it was
+abbrev pub tooMany : Bool → KeyTable → Batch → Bool
+tooMany noted t b = noted && overfull t b
+
+abbrev pub noteIf : Bool → ℕ → Batch → KeyTable → KeyTable
+noteIf noted slot b t = pick noted (refresh slot b t) t

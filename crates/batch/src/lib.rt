@@ -5,7 +5,7 @@ ghost use lib.ListN.{length, take};
 ghost use lib.Dec.{ltb};
 ghost use Rattle.base.specs.Pick.{pick, larger};
 ghost use Rattle.batch.specs.Batches.{emptyBatch, isEmpty, firstKeys, isBatch, makeBatch, clip, sameList, sameBatch};
-ghost use Rattle.batch.specs.Keys.{emptyTable, placeIn, noteKey, refresh, repeats, isNew, count1, newKeys, overfullIn, overfull};
+ghost use Rattle.batch.specs.Keys.{emptyTable, placeIn, noteKey, refresh, repeats, isNew, count1, newKeys, overfullIn, overfull, tooMany, noteIf};
 
 // A batch: its id and the keys that it puts. Keys past the count are 0.
 pub struct Batch {
@@ -306,5 +306,25 @@ impl KeyTable {
         ensures { λ r. ⌜ r ≡ overfull self batch ⌝ }
     {
         overfull_in(&self.keys, self.count, batch)
+    }
+
+    // 7 of a batch that is noted.
+    pub fn too_many(self, noted: bool, batch: Batch) -> bool
+        ensures { λ r. ⌜ r ≡ tooMany noted self batch ⌝ }
+    {
+        if noted {
+            return self.overfull(batch);
+        }
+        false
+    }
+
+    // The table with a batch that is noted.
+    pub fn note_if(self, noted: bool, slot: u64, batch: Batch) -> KeyTable
+        ensures { λ r. ⌜ r ≡ noteIf noted slot batch self ⌝ }
+    {
+        if noted {
+            return self.refresh(slot, batch);
+        }
+        self
     }
 }

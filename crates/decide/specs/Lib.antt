@@ -1,8 +1,12 @@
 pub mod Scalars
 pub mod Bars
 pub mod Decide
+pub mod PrepareReply
+pub mod Weighing
 pub mod Turns
 pub mod Ways
+pub mod NumberWays
+pub mod ReplyWays
 pub mod Laws
 pub mod Sorted
 pub mod Majority

@@ -1,9 +1,9 @@
 -- The replica's numbers: what is read off them, and each way in which a call changes them.
-use mathlib.Core.Bool.{Bool, not, _&&_}
-use Prim.Native.Nat.{ℕ, _/_, _%_}
-use lib.Dec.{ltb, eqb}
+use mathlib.Core.Bool.{Bool, not, _&&_, _||_}
+use Prim.Native.Nat.{ℕ, _+_, _/_, _%_}
+use lib.Dec.{ltb, leb, eqb}
 use Rattle.base.specs.Pick.{pick}
-use Rattle.members.specs.Groups.{quorumOf}
+use Rattle.members.specs.Groups.{groupSize, quorumOf}
 use Rattle.decide.specs.declared.Scalars.{Scalars}
 
 abbrev pub nobody : ℕ
@@ -33,6 +33,27 @@ urgent sc = eqb (sc .options % 2) 1
 
 abbrev pub disallowed : Scalars → Bool
 disallowed sc = eqb (sc .options / 2 % 2) 1
+
+-- 10: "new replica with numbers outside the above"
+abbrev pub mayBe : ℕ → ℕ → ℕ → ℕ → Bool
+mayBe id group start options = groupSize group && (ltb id group && (leb start 4294967296 && leb options 3))
+
+-- 1, the numbers, for a log of so many slots: "bad group size or id, start above 2^32, a count above its table's size, a .. leader outside the
+-- group, not start <= exec_bar <= commit_bar <= log end, or accept_bar below start or above the log end"
+unfoldable pub fitScalars : Scalars → ℕ → Bool
+fitScalars sc len =
+    groupSize (sc .group) && (ltb (sc .id) (sc .group) && (leb (sc .start) 4294967296 && (leb len 64
+    && ((eqb (sc .leader) nobody || ltb (sc .leader) (sc .group))
+    && (leb (sc .start) (sc .«exec_bar») && (leb (sc .«exec_bar») (sc .«commit_bar») && (leb (sc .«commit_bar») (sc .start + len)
+    && (leb (sc .start) (sc .«accept_bar») && leb (sc .«accept_bar») (sc .start + len)))))))))
+
+-- become_a_leader "is ignored if a leader is known and is not the timeout's source, or if disallowed"
+abbrev pub ignoresTimeout : Scalars → ℕ → Bool
+ignoresTimeout sc source = (not (eqb (sc .leader) nobody) && not (eqb (sc .leader) source)) || disallowed sc
+
+-- "if I'm the leader and urgent CommitNotice is on", once the end of the log is committed, at the ballot that it prepared
+abbrev pub notifies : Scalars → ℕ → ℕ → Bool
+notifies sc bar end = eqb bar end && (leads sc && (ltb 0 (sc .«bal_prepared») && (eqb (sc .«bal_prepared») (sc .«bal_max_seen») && urgent sc)))
 
 -- the two halves of what changes: who leads and the three ballots; the three bars, wal_offset and peer_accept_max
 abbrev pub withBallots : Scalars → ℕ → ℕ → ℕ → ℕ → Scalars

@@ -1,16 +1,20 @@
 // What a call that touches one slot decides, from the replica's scalars and that slot: small values in, small values out.
 mod bars;
 mod numbers;
+mod prepare_reply;
 mod replies;
 
 use actions::Says;
 pub use bars::unknown_bars;
 pub use numbers::NOBODY;
 pub use numbers::UNKNOWN_BAR;
+pub use numbers::may_be;
+pub use prepare_reply::bad_vote;
 pub use replies::awaits_prepare;
 pub use replies::proposal;
 pub use replies::sent_vote;
 use slots::Slot;
+use slots::Vote;
 
 // The replica's numbers. options: 1 urgent commit notice + 2 step-up disallowed; leader: 255 = none.
 pub struct Scalars {
@@ -44,4 +48,26 @@ pub struct Decided {
     pub slot: Slot,
     pub says: Says,
     pub keys: [u64; 8],
+}
+
+// A PrepareReply as it arrives. voted: whether a vote is present.
+pub struct Reply {
+    pub slot: u64,
+    pub trigger: u64,
+    pub endprep: u64,
+    pub ballot: u64,
+    pub voted: bool,
+    pub vote: Vote,
+    pub bar: u64,
+}
+
+// What a PrepareReply decides: the answer; whether the slot's batch goes into the key table and the slots from the trigger on enter
+// Accept; the scalars, the slot and the trigger's after it.
+pub struct Weighed {
+    pub answer: u64,
+    pub noted: bool,
+    pub enters: bool,
+    pub sc: Scalars,
+    pub slot: Slot,
+    pub trigger: Slot,
 }

@@ -1,6 +1,8 @@
 // The replica's numbers: what is read off them, and each way in which a call changes them.
 ghost use mathlib.Core.Path.{_≡_};
-ghost use Rattle.decide.specs.Scalars.{leads, isMember, isPeer, quorum, urgent, disallowed};
+ghost use mathlib.Core.Bool.{_||_};
+ghost use lib.Dec.{ltb, eqb};
+ghost use Rattle.decide.specs.Scalars.{leads, isMember, isPeer, quorum, urgent, disallowed, mayBe, fitScalars, ignoresTimeout, notifies};
 ghost use Rattle.decide.specs.Scalars.{followed, stepsDown, withPrepared, withBars, withOffset, withPeerMax, steppedUp};
 use crate::Scalars;
 
@@ -9,6 +11,32 @@ pub const NOBODY: u64 = 255;
 
 // 2^64 - 1: the bar of a member of which nothing is known.
 pub const UNKNOWN_BAR: u64 = 18446744073709551615;
+
+// Whether a new replica may have these numbers.
+pub fn may_be(id: u64, group: u64, start: u64, options: u64) -> bool
+    ensures { λ r. ⌜ r ≡ mayBe id group start options ⌝ }
+{
+    if !members::is_group_size(group) {
+        return false;
+    }
+    if group <= id {
+        return false;
+    }
+    if 4294967296 < start {
+        return false;
+    }
+    options <= 3
+}
+
+// Whether the leader is nobody or a member.
+fn known_leader(leader: u64, group: u64) -> bool
+    ensures { λ r. ⌜ r ≡ (eqb leader 255 || ltb leader group) ⌝ }
+{
+    if leader == NOBODY {
+        return true;
+    }
+    leader < group
+}
 
 impl Scalars {
     // Whether self leads.
@@ -50,6 +78,73 @@ impl Scalars {
         ensures { λ r. ⌜ r ≡ disallowed self ⌝ }
     {
         self.options / 2 % 2 == 1
+    }
+
+    // Whether the numbers are fit for a log of so many slots.
+    pub fn is_fit(self, len: usize) -> bool
+        ensures { λ r. ⌜ r ≡ fitScalars self len ⌝ }
+    {
+        if !members::is_group_size(self.group) {
+            return false;
+        }
+        if self.group <= self.id {
+            return false;
+        }
+        if 4294967296 < self.start {
+            return false;
+        }
+        if 64 < len {
+            return false;
+        }
+        if !known_leader(self.leader, self.group) {
+            return false;
+        }
+        if self.exec_bar < self.start {
+            return false;
+        }
+        if self.commit_bar < self.exec_bar {
+            return false;
+        }
+        let end = self.start + len as u64;
+        if end < self.commit_bar {
+            return false;
+        }
+        if self.accept_bar < self.start {
+            return false;
+        }
+        self.accept_bar <= end
+    }
+
+    // Whether a timeout is ignored: step-up is disallowed, or a leader is known and is not the timeout's source.
+    pub fn ignores_timeout(self, source: u64) -> bool
+        ensures { λ r. ⌜ r ≡ ignoresTimeout self source ⌝ }
+    {
+        if self.disallowed() {
+            return true;
+        }
+        if self.leader == NOBODY {
+            return false;
+        }
+        self.leader != source
+    }
+
+    // Whether a leader that notifies urgently has committed its whole log, at the ballot that it prepared.
+    pub fn notifies(self, bar: u64, end: u64) -> bool
+        ensures { λ r. ⌜ r ≡ notifies self bar end ⌝ }
+    {
+        if bar != end {
+            return false;
+        }
+        if self.leader != self.id {
+            return false;
+        }
+        if self.bal_prepared == 0 {
+            return false;
+        }
+        if self.bal_prepared != self.bal_max_seen {
+            return false;
+        }
+        self.urgent()
     }
 
     // A larger ballot is followed, and who sent it.

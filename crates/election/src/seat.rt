@@ -2,11 +2,11 @@
 use crate::say;
 use batch::Batch;
 use batch::empty_batch;
+use decide::Reply;
 use replica::Done;
 use replica::Entry;
 use replica::Handled;
 use replica::Replica;
-use replica::Reply;
 use slots::Vote;
 
 // turn: how many calls were made, the one that made it among them.

@@ -19,10 +19,10 @@ use Rattle.actions.specs.Actions.{Act, saysActs}
 use Rattle.slots.specs.declared.Slot.{Slot}
 use Rattle.slots.specs.Slots.{enteredSlot}
 use Rattle.decide.specs.declared.Scalars.{Scalars}
+use Rattle.decide.specs.declared.Reply.{Reply}
 use Rattle.decide.specs.Scalars.{leads, urgent, stepsDown}
 use Rattle.replica.specs.declared.Window.{Window}
 use Rattle.replica.specs.declared.Replica.{Replica}
-use Rattle.replica.specs.declared.Reply.{Reply}
 use Rattle.replica.specs.declared.Done.{Done}
 use Rattle.replica.specs.Record.{Outcome, withWindow, place, number, logEnd, slotAt}
 use Rattle.replica.specs.Messages.{promise, downActs, appendActs, enterActs, replyOn}

@@ -9,11 +9,12 @@ use Rattle.base.specs.Pick.{pick-both}
 use Rattle.base.specs.Scan.{scan, scan-low, scan-high, scan-below}
 use Rattle.actions.specs.Actions.{Act}
 use Rattle.slots.specs.Slots.{passedSlot, acknowledgedSlot}
+use Rattle.decide.specs.PrepareReply.{ownReply}
 use Rattle.replica.specs.declared.Replica.{Replica}
 use Rattle.replica.specs.declared.Done.{Done}
 use Rattle.replica.specs.Record.{Outcome, place, number, slotAt}
 use Rattle.replica.specs.Messages.{orKept}
-use Rattle.replica.specs.Durability.{ownReply, movedAccept, passStop, loggedOn, loggedStep}
+use Rattle.replica.specs.Durability.{movedAccept, passStop, loggedOn, loggedStep}
 use Rattle.replica.specs.Step.{Call, callPrepare, callPrepareReply, callAccept, callAcceptReply, callCommitNotice, callTimeout, callLogged, callOffer, callExecuted, callOpenRead, callReadReply, step}
 use Rattle.laws.specs.Leaves.{orKept-ways}
 use Rattle.laws.specs.WaysDurability.{Logs, logged, loggedAt, Completes, completes-silent, completes-more, completes-commit, completes-report, passed, passFrom, loggedStep-ways}

@@ -13,10 +13,10 @@ use Rattle.slots.specs.declared.Vote.{Vote}
 use Rattle.slots.specs.declared.ReplicaBook.{ReplicaBook}
 use Rattle.slots.specs.declared.Slot.{Slot}
 use Rattle.slots.specs.Slots.{nullSlot, noSlot, newBook, preparedSlot, redoneSlot, countedSlot, enteredSlot, acceptedSlot, acknowledgedSlot, committedSlot, markedSlot, passedSlot, executedSlot, loggedSlot, offeredSlot}
+use Rattle.decide.specs.declared.Reply.{Reply}
 use Rattle.decide.specs.Decide.{sentVote}
 use Rattle.replica.specs.declared.Window.{Window}
 use Rattle.replica.specs.declared.Replica.{Replica}
-use Rattle.replica.specs.declared.Reply.{Reply}
 use Rattle.replica.specs.Record.{slotAt, putSlot, grown, sweep}
 use Rattle.replica.specs.Messages.{clean, appended}
 use Rattle.laws.specs.Windows.{size, put-long, put-each, grown-long, grown-most, grown-each, sweep-long, sweep-each, appended-long, appended-most, appended-each}

@@ -14,10 +14,10 @@ use Rattle.tally.specs.Open.{newRead, withAck}
 use Rattle.actions.specs.Actions.{Act}
 use Rattle.slots.specs.declared.Slot.{Slot}
 use Rattle.slots.specs.Slots.{newBook, preparedSlot, redoneSlot, enteredSlot, markedSlot, executedSlot, acknowledgedSlot}
+use Rattle.decide.specs.declared.Reply.{Reply}
 use Rattle.decide.specs.Decide.{decideOffer}
 use Rattle.replica.specs.declared.Window.{Window}
 use Rattle.replica.specs.declared.Replica.{Replica}
-use Rattle.replica.specs.declared.Reply.{Reply}
 use Rattle.replica.specs.Record.{Outcome, place, number, logEnd, slotAt, putSlot}
 use Rattle.replica.specs.Messages.{clean, prepareBook, prepareStep, replyOn, cleanReply, prepareReplyStep, acceptStep, acceptReplyStep}
 use Rattle.replica.specs.Leadership.{firstOpen, timeoutStep, commitNoticeStep}

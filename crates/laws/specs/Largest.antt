@@ -5,13 +5,15 @@ use mathlib.Core.Bool.{false}
 use lib.ListN.{length}
 use Rattle.base.specs.Scan.{scan}
 use Rattle.members.specs.Sets.{has, insert, count, countIn}
+use Rattle.tally.specs.Open.{fitReads}
 use Rattle.slots.specs.Slots.{noVote, fitSlot}
 use Rattle.decide.specs.Bars.{notAbove, leastMajority, withBar, withFallen}
 use Rattle.decide.specs.Decide.{decideVote, decideCount}
+use Rattle.decide.specs.Scalars.{fitScalars}
 use Rattle.replica.specs.declared.Replica.{Replica}
 use Rattle.replica.specs.declared.Entry.the-variants.{PrepareBal}
 use Rattle.replica.specs.Record.{Outcome, newReplica, grown, noting}
-use Rattle.replica.specs.Fit.{fit, fitScalars, fitSlots, fitReads}
+use Rattle.replica.specs.Fit.{fit, fitSlots}
 use Rattle.replica.specs.Messages.{appended, countedOn, votedOn, repliedOn, replyOn, prepareReplyStep}
 use Rattle.replica.specs.Leadership.{firstOpen, lastOpen, leadOn, stepUp, timeoutStep}
 use Rattle.replica.specs.Durability.{preparedDone, loggedOn, loggedStep}

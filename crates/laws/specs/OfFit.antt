@@ -11,15 +11,15 @@ use Rattle.base.specs.Pick.{and-left, and-right, and-make}
 use Rattle.base.specs.Find.{any, any-false}
 use Rattle.members.specs.Groups.{groupSize}
 use Rattle.tally.specs.declared.Reads.{Reads}
-use Rattle.tally.specs.Open.{noRead}
+use Rattle.tally.specs.Open.{noRead, fitRead, fitReads}
 use Rattle.slots.specs.Slots.{fitSlot}
 use Rattle.slots.specs.Laws.{Fit as FitSlot, fit-parts, fit-made}
 use Rattle.decide.specs.declared.Scalars.{Scalars}
-use Rattle.decide.specs.Scalars.{nobody}
+use Rattle.decide.specs.Scalars.{nobody, mayBe, fitScalars}
 use Rattle.replica.specs.declared.Window.{Window}
 use Rattle.replica.specs.declared.Replica.{Replica}
-use Rattle.replica.specs.Record.{slotAt, fresh, mayBe}
-use Rattle.replica.specs.Fit.{fitScalars, fitSlots, fitRead, fitReads, fit}
+use Rattle.replica.specs.Record.{slotAt, fresh}
+use Rattle.replica.specs.Fit.{fitSlots, fit}
 use Rattle.laws.specs.OfBase.{any-nowhere}
 
 -- no leader, or one of the group

@@ -15,10 +15,10 @@ use Rattle.tally.specs.Open.{smaller, withTally, withAck}
 use Rattle.actions.specs.declared.Action.the-variants.{StatusUp, Heartbeat}
 use Rattle.actions.specs.Actions.{Act, bare}
 use Rattle.slots.specs.Slots.{preparedSlot, newBook, redoneSlot, markedSlot, passedSlot}
+use Rattle.decide.specs.declared.Reply.{Reply}
 use Rattle.decide.specs.Decide.{decideOffer}
 use Rattle.replica.specs.declared.Window.{Window}
 use Rattle.replica.specs.declared.Replica.{Replica}
-use Rattle.replica.specs.declared.Reply.{Reply}
 use Rattle.replica.specs.declared.Done.{Done}
 use Rattle.replica.specs.Record.{Outcome, place, number, slotAt}
 use Rattle.replica.specs.Messages.{prepareBook, prepareStep, orKept, cleanReply, prepareReplyStep, acceptStep, acceptReplyStep}

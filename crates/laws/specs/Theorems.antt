@@ -9,10 +9,11 @@ use lib.Dec.{leb}
 use lib.ListN.{length}
 use borrow.Author.Tests.{le-leb, lt-leb}
 use Rattle.base.specs.Pick.{pick-both, decide}
+use Rattle.decide.specs.Scalars.{mayBe, fitScalars}
 use Rattle.replica.specs.declared.Replica.{Replica}
 use Rattle.replica.specs.declared.Made.{Made}
-use Rattle.replica.specs.Record.{kept, mayBe, zeroReplica, newReplica}
-use Rattle.replica.specs.Fit.{fit, fitScalars}
+use Rattle.replica.specs.Record.{kept, zeroReplica, newReplica}
+use Rattle.replica.specs.Fit.{fit}
 use Rattle.replica.specs.Step.{Call, step}
 use Rattle.laws.specs.Sound.{step-sound}
 use Rattle.laws.specs.Conflict.{Conflicts}

@@ -18,12 +18,12 @@ use Rattle.slots.specs.declared.Slot.{Slot}
 use Rattle.slots.specs.Slots.{adoptedSlot, countedSlot, enteredSlot}
 use Rattle.decide.specs.declared.Scalars.{Scalars}
 use Rattle.decide.specs.declared.Decided.{Decided}
+use Rattle.decide.specs.declared.Reply.{Reply}
 use Rattle.decide.specs.Scalars.{leads, isPeer, withPrepared}
 use Rattle.decide.specs.Bars.{withFallen}
 use Rattle.decide.specs.Decide.{silent, awaitsPrepare, decideVote, isCounted, decideCount}
 use Rattle.replica.specs.declared.Window.{Window}
 use Rattle.replica.specs.declared.Replica.{Replica}
-use Rattle.replica.specs.declared.Reply.{Reply}
 use Rattle.replica.specs.Record.{Outcome, kept, noting, withWindow, place, number, logEnd, slotAt, putSlot, sweep}
 use Rattle.replica.specs.Fit.{fit, ready}
 use Rattle.replica.specs.Messages.{appended, appendActs, enterActs, tabled, countedOn, votedOn, repliedOn, inRange, orKept, replyOn, cleanReply, prepareReplyStep}

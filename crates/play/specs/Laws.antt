@@ -7,9 +7,9 @@ use lib.Dec.{eqb}
 use borrow.Author.Tests.{eq-eqb, ne-eqb}
 use Rattle.batch.specs.declared.Batch.{Batch}
 use Rattle.tally.specs.declared.Tally.{Tally}
+use Rattle.decide.specs.declared.Reply.{Reply}
 use Rattle.replica.specs.declared.Replica.{Replica}
 use Rattle.replica.specs.declared.Made.{Made}
-use Rattle.replica.specs.declared.Reply.{Reply}
 use Rattle.replica.specs.declared.Done.{Done}
 use Rattle.replica.specs.Record.{Outcome, kept, newReplica}
 use Rattle.replica.specs.Messages.{prepareStep, prepareReplyStep, acceptStep, acceptReplyStep}

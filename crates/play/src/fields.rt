@@ -2,9 +2,9 @@
 ghost use mathlib.Core.Path.{_≡_};
 ghost use Rattle.play.specs.Play.{batchOf, tallyOf, replyOf, entryOf, doneOf};
 use batch::Batch;
+use decide::Reply;
 use replica::Done;
 use replica::Entry;
-use replica::Reply;
 use slots::Vote;
 use tally::Tally;
 use tally::listed::listed;

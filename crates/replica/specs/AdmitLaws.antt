@@ -9,10 +9,11 @@ use Rattle.base.specs.Pick.{pick, pick-zero, and-left, and-both}
 use Rattle.members.specs.Groups.{groupSize}
 use Rattle.members.specs.Ballots.{owns}
 use Rattle.members.specs.Laws.{group-bounds}
-use Rattle.decide.specs.Scalars.{isMember, isPeer}
+use Rattle.tally.specs.Open.{fitReads}
+use Rattle.decide.specs.Scalars.{isMember, isPeer, fitScalars}
 use Rattle.replica.specs.declared.Replica.{Replica}
 use Rattle.replica.specs.Record.{Outcome, kept}
-use Rattle.replica.specs.Fit.{fitScalars, fitSlots, fitReads, fit, ready}
+use Rattle.replica.specs.Fit.{fitSlots, fit, ready}
 use Rattle.replica.specs.Admit.{fromMember, fromPeer, fromOwner}
 
 -- ── one number is tested first ──

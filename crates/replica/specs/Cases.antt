@@ -15,18 +15,19 @@ use Rattle.tally.specs.declared.Held.{Held}
 use Rattle.tally.specs.declared.Best.the-variants.{Value}
 use Rattle.tally.specs.declared.Tally.{Tally}
 use Rattle.tally.specs.Merge.{noBest, bestNumbers, bestAt, merge}
-use Rattle.tally.specs.Open.{noRead, findRead, openRead, closeRead, putRead, replyTo}
+use Rattle.tally.specs.Open.{noRead, findRead, openRead, closeRead, putRead, replyTo, fitReads}
 use Rattle.actions.specs.Actions.{flat, numbersOf}
 use Rattle.slots.specs.declared.Slot.{Slot}
 use Rattle.slots.specs.Slots.{noVote, fitSlot}
 use Rattle.decide.specs.declared.Scalars.{Scalars}
+use Rattle.decide.specs.declared.Reply.{Reply}
 use Rattle.decide.specs.Bars.{notAbove, leastMajority, withBar, withFallen}
 use Rattle.decide.specs.Decide.{decideAccept, decideAcceptReply, decideVote, decideCount, decidePromised, decideAccepted, decideOffer}
+use Rattle.decide.specs.Scalars.{fitScalars}
 use Rattle.replica.specs.declared.Replica.{Replica}
-use Rattle.replica.specs.declared.Reply.{Reply}
 use Rattle.replica.specs.declared.Entry.the-variants.{PrepareBal, AcceptData, CommitSlot}
 use Rattle.replica.specs.Record.{Outcome, newReplica, slotAt, grown, noting, settled}
-use Rattle.replica.specs.Fit.{fit, fitScalars, fitSlots, fitReads}
+use Rattle.replica.specs.Fit.{fit, fitSlots}
 use Rattle.replica.specs.Messages.{prepareOn, prepareStep, lastUsed, appended, countedOn, votedOn, repliedOn, replyOn, prepareReplyStep, acceptStep, acceptReplyStep}
 use Rattle.replica.specs.Leadership.{firstOpen, lastOpen, leadOn, stepUp, timeoutStep, markOn, markStop, commitNoticeStep}
 use Rattle.replica.specs.Durability.{preparedDone, movedAccept, acceptedDone, passOn, passStop, committedDone, loggedOn, loggedStep}

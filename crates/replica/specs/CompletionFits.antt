@@ -1,18 +1,10 @@
 -- A log completion inside the crate: what its functions may count on, and what the notice hands back.
 use mathlib.Core.Path.{_≡_}
-use mathlib.Core.Bool.{Bool, _&&_}
 use mathlib.Core.List.{List}
 use Prim.Native.Nat.{ℕ, _+_, _≤_, _<_}
-use lib.Dec.{ltb, eqb}
 use lib.ListN.{length}
 use Rattle.actions.specs.Actions.{Act, writeAt}
-use Rattle.decide.specs.declared.Scalars.{Scalars}
-use Rattle.decide.specs.Scalars.{leads, urgent}
 use Rattle.replica.specs.declared.Replica.{Replica}
-
--- Durability.noticeActs, its test: a leader that notifies urgently has committed its whole log, at the ballot that it prepared
-abbrev pub notifies : Scalars → ℕ → ℕ → Bool
-notifies sc bar end = eqb bar end && (leads sc && (ltb 0 (sc .«bal_prepared») && (eqb (sc .«bal_prepared») (sc .«bal_max_seen») && urgent sc)))
 
 -- the bars lie in the log, and the log in the window
 pub record BarsFit (r : Replica) : Type 0 where

@@ -5,7 +5,7 @@ use mathlib.Core.List.{List, [], _∷_, _++_}
 use Prim.Native.Nat.{ℕ, _+_, _-_, _≤_, _<_}
 use native.Mathlib.Nat.{add-zero, zero-add}
 use native.Mathlib.Omega.{arith}
-use lib.Dec.{ltb, leb, eqb}
+use lib.Dec.{leb, eqb}
 use lib.ListN.{length, set, length-append}
 use borrow.Author.Tests.{lt-ltb, le-ltb, le-leb, lt-leb, eq-eqb, ne-eqb, eqb-true}
 use Rattle.base.specs.Pick.{pick, pick-both, pick-cases, tests}
@@ -16,18 +16,18 @@ use Rattle.batch.specs.Keys.{overfull}
 use Rattle.actions.specs.declared.Action.the-variants.{CommitNotice}
 use Rattle.actions.specs.Actions.{Act, bare, writeAt, writeActions}
 use Rattle.actions.specs.Laws.{write-none, write-then}
-use Rattle.slots.specs.declared.Vote.{Vote}
 use Rattle.slots.specs.declared.Slot.{Slot}
 use Rattle.slots.specs.Slots.{loggedSlot, passedSlot}
 use Rattle.decide.specs.declared.Scalars.{Scalars}
 use Rattle.decide.specs.declared.Decided.{Decided}
-use Rattle.decide.specs.Scalars.{leads, urgent, withBars, withOffset}
-use Rattle.decide.specs.Decide.{sentVote, decidePromised, decideAccepted}
+use Rattle.decide.specs.declared.Reply.{Reply}
+use Rattle.decide.specs.Scalars.{leads, withBars, withOffset, notifies}
+use Rattle.decide.specs.Decide.{decidePromised, decideAccepted}
 use Rattle.decide.specs.Laws.{Steady, Settles, done, refused, settles-accepted}
+use Rattle.decide.specs.PrepareReply.{ownReply}
 use Rattle.replica.specs.declared.Window.{Window}
 use Rattle.replica.specs.declared.Placed.{Placed}
 use Rattle.replica.specs.declared.Replica.{Replica}
-use Rattle.replica.specs.declared.Reply.{Reply}
 use Rattle.replica.specs.declared.Handled.{Handled}
 use Rattle.replica.specs.declared.Entry.{Entry}
 use Rattle.replica.specs.declared.Entry.the-variants.{PrepareBal, AcceptData, CommitSlot}
@@ -35,57 +35,34 @@ use Rattle.replica.specs.declared.Done.{Done}
 use Rattle.replica.specs.Record.{Outcome, kept, noting, settled, withWindow, place, number, logEnd, slotAt, putSlot}
 use Rattle.replica.specs.Fit.{ready}
 use Rattle.replica.specs.Messages.{appended, appendActs, tabled, repliedOn, orKept, inRange, replyOn}
-use Rattle.replica.specs.Durability.{ownReply, preparedDone, movedAccept, thenMoved, acceptedDone, passActs, noticeActs, passOn, passStop, committedDone, doneOn, loggedOn, loggedStep}
+use Rattle.replica.specs.Durability.{preparedDone, movedAccept, thenMoved, acceptedDone, passActs, noticeActs, passOn, passStop, committedDone, doneOn, loggedOn, loggedStep}
 use Rattle.replica.specs.Step.{Told}
 use Rattle.replica.specs.Sweeps.{passes, Swept}
 use Rattle.replica.specs.SweepLaws.{passes-status}
 use Rattle.replica.specs.AdmitLaws.{Ready, unready-kept, ready-goes}
 use Rattle.replica.specs.ActingLaws.{acted, told}
 use Rattle.replica.specs.Replying.{ReplyFits}
-use Rattle.replica.specs.CompletionFits.{notifies, BarsFit, DoneFits, PassFits, Wrote}
+use Rattle.replica.specs.CompletionFits.{BarsFit, DoneFits, PassFits, Wrote}
 
--- ── the notice: the test that decides whether it is sent, then what is written ──
-module _ (sc : Scalars) (bar end : ℕ) where
-  pub silent-end : (bar ≡ end → ⊥) → false ≡ notifies sc bar end
-  silent-end h = rw (ne-eqb bar end h)
+-- ── the notice: what is written, by whether commit_bar stood still and by the test ──
+module _ (sc : Scalars) (bar end : ℕ) (still : Bool) (n : ℕ) (room : List ℕ) where
+  abbrev said : List Act
+  said = pick still [] (noticeActs sc bar end)
 
-  pub silent-follower : (sc .leader ≡ sc .id → ⊥) → false ≡ notifies sc bar end
-  silent-follower h = rw (ne-eqb (sc .leader) (sc .id) h, and-false)
+  wrote-none : said ≡ [] → Wrote said n room n room
+  wrote-none e = record { next = rw e (sym (add-zero n)); written = rw e (sym (write-none room n)) }
 
-  pub silent-unprepared : sc .«bal_prepared» ≡ 0 → false ≡ notifies sc bar end
-  silent-unprepared h = rw (le-ltb 0 (sc .«bal_prepared») (omega arith), and-false, and-false)
+  pub notice-still : still ≡ true → Wrote said n room n room
+  notice-still e = wrote-none (rw e)
 
-  pub silent-outdated : (sc .«bal_prepared» ≡ sc .«bal_max_seen» → ⊥) → false ≡ notifies sc bar end
-  silent-outdated h = rw (ne-eqb (sc .«bal_prepared») (sc .«bal_max_seen») h, and-false, and-false, and-false)
+  pub notice-none : still ≡ false → notifies sc bar end ≡ false → Wrote said n room n room
+  notice-none e f = wrote-none (rw (e, f))
 
-  pub notifies-last : bar ≡ end → sc .leader ≡ sc .id → (sc .«bal_prepared» ≡ 0 → ⊥) → sc .«bal_prepared» ≡ sc .«bal_max_seen» → urgent sc ≡ notifies sc bar end
-  notifies-last a b c d =
-      rw (
-        eq-eqb bar end a,
-        eq-eqb (sc .leader) (sc .id) b,
-        lt-ltb 0 (sc .«bal_prepared») (omega arith),
-        eq-eqb (sc .«bal_prepared») (sc .«bal_max_seen») d,
-      )
-
-  -- what is written, by whether commit_bar stood still and by the test
-  module _ (still : Bool) (n : ℕ) (room : List ℕ) where
-    abbrev said : List Act
-    said = pick still [] (noticeActs sc bar end)
-
-    wrote-none : said ≡ [] → Wrote said n room n room
-    wrote-none e = record { next = rw e (sym (add-zero n)); written = rw e (sym (write-none room n)) }
-
-    pub notice-still : still ≡ true → Wrote said n room n room
-    notice-still e = wrote-none (rw e)
-
-    pub notice-none : still ≡ false → notifies sc bar end ≡ false → Wrote said n room n room
-    notice-none e f = wrote-none (rw (e, f))
-
-    pub notice-one : (after : List ℕ) → still ≡ false → notifies sc bar end ≡ true
-        → after ≡ writeAt room n (bare (CommitNotice (record { ballot = sc .«bal_max_seen»; bar = bar })) ∷ []) → Wrote said n room (n + 1) after
-    notice-one after e f w =
-        let s : said ≡ bare (CommitNotice (record { ballot = sc .«bal_max_seen»; bar = bar })) ∷ [] = rw (e, f) in
-        record { next = rw s; written = rw s w }
+  pub notice-one : (after : List ℕ) → still ≡ false → notifies sc bar end ≡ true
+      → after ≡ writeAt room n (bare (CommitNotice (record { ballot = sc .«bal_max_seen»; bar = bar })) ∷ []) → Wrote said n room (n + 1) after
+  notice-one after e f w =
+      let s : said ≡ bare (CommitNotice (record { ballot = sc .«bal_max_seen»; bar = bar })) ∷ [] = rw (e, f) in
+      record { next = rw s; written = rw s w }
 
 -- ── commit_bar ──
 module _ (r : Replica) (from stop : ℕ) where
@@ -202,19 +179,6 @@ module _ (r : Replica) (i slot : ℕ) (s : Slot) where
         rw (eq-eqb (settledVote .answer) 0 a) (record { handed = rw (g, u .handed); written = u .written })
 
 -- ── PrepareBal ──
-pub own-reply : (sc : Scalars) (s : Slot) (slot : ℕ) (v : Vote) → v ≡ sentVote s
-    → record {
-      slot = slot;
-      trigger = s .leader .trigger;
-      endprep = s .leader .endprep;
-      ballot = s .ballot;
-      voted = ltb 0 (s .vote .ballot);
-      vote = v;
-      bar = sc .«accept_bar»;
-    }
-    ≡ ownReply sc s slot
-own-reply sc s slot v e = rw e
-
 module _ (r : Replica) (i slot : ℕ) (s : Slot) where
   pub prepared-follows : (d : Decided) → (r .sc .leader ≡ r .sc .id → ⊥) → d ≡ decidePromised (r .sc) s slot
       → preparedDone r i slot s ≡ settled r (r .window) i slot d

@@ -11,11 +11,11 @@ use Rattle.actions.specs.Actions.{Act, act, bare}
 use Rattle.slots.specs.declared.Slot.{Slot}
 use Rattle.slots.specs.Slots.{accepting, committed, loggedSlot, passedSlot}
 use Rattle.decide.specs.declared.Scalars.{Scalars}
-use Rattle.decide.specs.Scalars.{leads, urgent, withBars, withOffset}
-use Rattle.decide.specs.Decide.{sentVote, decidePromised, decideAccepted}
+use Rattle.decide.specs.Scalars.{leads, notifies, withBars, withOffset}
+use Rattle.decide.specs.Decide.{decidePromised, decideAccepted}
+use Rattle.decide.specs.PrepareReply.{ownReply}
 use Rattle.replica.specs.declared.Window.{Window}
 use Rattle.replica.specs.declared.Replica.{Replica}
-use Rattle.replica.specs.declared.Reply.{Reply}
 use Rattle.replica.specs.declared.Entry.{Entry}
 use Rattle.replica.specs.declared.Entry.the-variants.{PrepareBal, AcceptData, CommitSlot}
 use Rattle.replica.specs.declared.Done.{Done}
@@ -28,19 +28,6 @@ abbrev pub entryNumber : Entry → ℕ
 entryNumber PrepareBal = 1
 entryNumber AcceptData = 2
 entryNumber CommitSlot = 3
-
--- "on leader, finishing the logging of a PrepareBal entry is equivalent to receiving a Prepare reply from myself"
-abbrev pub ownReply : Scalars → Slot → ℕ → Reply
-ownReply sc s slot =
-    record {
-      slot = slot;
-      trigger = s .leader .trigger;
-      endprep = s .leader .endprep;
-      ballot = s .ballot;
-      voted = ltb 0 (s .vote .ballot);
-      vote = sentVote s;
-      bar = sc .«accept_bar»;
-    }
 
 -- the slot s stands at place i: the leader answers itself for slots up to its endprep, a follower answers the source
 unfoldable pub preparedDone : Replica → ℕ → ℕ → Slot → Outcome
@@ -75,7 +62,7 @@ passActs slot s =
 -- "if I'm the leader and urgent CommitNotice is on", once the end of the log is committed
 abbrev pub noticeActs : Scalars → ℕ → ℕ → List Act
 noticeActs sc bar end =
-    pick (eqb bar end && (leads sc && (ltb 0 (sc .«bal_prepared») && (eqb (sc .«bal_prepared») (sc .«bal_max_seen») && urgent sc))))
+    pick (notifies sc bar end)
     (bare (CommitNotice (record { ballot = sc .«bal_max_seen»; bar = bar })) ∷ [])
     []
 

@@ -1,6 +1,6 @@
 -- The laws of a timeout and of CommitNotice: each way through the code is a case of the definition.
 use mathlib.Core.Path.{_≡_, refl, sym, ap, _∙_}
-use mathlib.Core.Bool.{Bool, true, false, not, _&&_, _||_, or-true, or-false}
+use mathlib.Core.Bool.{Bool, true, false, not}
 use mathlib.Core.List.{List, [], _∷_, _++_}
 use Prim.Native.Nat.{ℕ, _+_, _-_, _≤_, _<_}
 use native.Mathlib.Nat.{zero-add}
@@ -20,13 +20,13 @@ use Rattle.slots.specs.declared.LeaderBook.{LeaderBook}
 use Rattle.slots.specs.Slots.{newBook, redoneSlot, markedSlot}
 use Rattle.decide.specs.declared.Scalars.{Scalars}
 use Rattle.decide.specs.declared.PeerBars.{PeerBars}
-use Rattle.decide.specs.Scalars.{nobody, disallowed, steppedUp}
+use Rattle.decide.specs.Scalars.{steppedUp, ignoresTimeout}
 use Rattle.decide.specs.Bars.{unknownBars}
 use Rattle.replica.specs.declared.Window.{Window}
 use Rattle.replica.specs.declared.Replica.{Replica}
 use Rattle.replica.specs.declared.Placed.{Placed}
 use Rattle.replica.specs.Record.{Outcome, kept, withWindow, grown}
-use Rattle.replica.specs.Leadership.{ignoresTimeout, firstOpen, lastOpen, redoActs, leadOn, stepUp, timeoutStep, markActs, markOn, markStop, commitNoticeStep}
+use Rattle.replica.specs.Leadership.{firstOpen, lastOpen, redoActs, leadOn, stepUp, timeoutStep, markActs, markOn, markStop, commitNoticeStep}
 use Rattle.replica.specs.Step.{Told}
 use Rattle.replica.specs.Admit.{fromMember, fromOwner}
 use Rattle.replica.specs.AdmitLaws.{gate-member, gate-owner, gate-shut, gate-open, Ready}
@@ -34,24 +34,6 @@ use Rattle.replica.specs.ActingLaws.{acted}
 use Rattle.replica.specs.Sweeps.{passes, sweepActs, Ranged, Swept}
 use Rattle.replica.specs.SweepLaws.{grown-within, grown-keeps, firstOpen-stop, firstOpen-within, markStop-stop, markStop-low, markStop-within}
 use Rattle.replica.specs.ElectionFits.{StepFits, LeadFits}
-
--- ── whether a timeout is ignored ──
-module _ (sc : Scalars) (source : ℕ) {b : Bool} (e : b ≡ disallowed sc) where
-  -- a leader is known and is not the source
-  abbrev otherLeads : Bool
-  otherLeads = not (eqb (sc .leader) nobody) && not (eqb (sc .leader) source)
-
-  ignores-as : (otherLeads || b) ≡ ignoresTimeout sc source
-  ignores-as = ap (λ (t : Bool). otherLeads || t) e
-
-  pub ignores-disallowed : b ≡ true → true ≡ ignoresTimeout sc source
-  ignores-disallowed h = sym (ap (λ (t : Bool). otherLeads || t) h ∙ or-true otherLeads) ∙ ignores-as
-
-  pub ignores-none : b ≡ false → sc .leader ≡ 255 → false ≡ ignoresTimeout sc source
-  ignores-none h n = sym (rw (h, eq-eqb (sc .leader) 255 n)) ∙ ignores-as
-
-  pub ignores-other : b ≡ false → (sc .leader ≡ 255 → ⊥) → not (eqb (sc .leader) source) ≡ ignoresTimeout sc source
-  ignores-other h n = sym (rw (h, ne-eqb (sc .leader) 255 n) (or-false (not (eqb (sc .leader) source)))) ∙ ignores-as
 
 -- ── a timeout ──
 module _ (r : Replica) (room source : ℕ) where

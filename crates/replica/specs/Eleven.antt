@@ -5,8 +5,8 @@ use mathlib.Core.List.{List}
 use Prim.Native.Nat.{ℕ}
 use Rattle.batch.specs.declared.Batch.{Batch}
 use Rattle.tally.specs.declared.Tally.{Tally}
+use Rattle.decide.specs.declared.Reply.{Reply}
 use Rattle.replica.specs.declared.Replica.{Replica}
-use Rattle.replica.specs.declared.Reply.{Reply}
 use Rattle.replica.specs.declared.Done.{Done}
 use Rattle.replica.specs.Messages.{prepareStep, prepareReplyStep, acceptStep, acceptReplyStep}
 use Rattle.replica.specs.Leadership.{timeoutStep, commitNoticeStep}

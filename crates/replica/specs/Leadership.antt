@@ -1,5 +1,5 @@
 -- 001, leadership.rs: become_a_leader (a timeout) and CommitNotice with advance_commit_bar. check_leader is `followed` and `downActs`.
-use mathlib.Core.Bool.{Bool, true, false, not, _&&_, _||_}
+use mathlib.Core.Bool.{Bool, true, false, not, _&&_}
 use mathlib.Core.List.{List, [], _∷_, _++_}
 use Prim.Native.Nat.{ℕ, _+_}
 use lib.Dec.{ltb, leb, eqb}
@@ -14,8 +14,7 @@ use Rattle.actions.specs.declared.Action.the-variants.{CommitSlot, Prepare, Hea
 use Rattle.actions.specs.Actions.{Act, bare}
 use Rattle.slots.specs.declared.Slot.{Slot}
 use Rattle.slots.specs.Slots.{accepting, committed, newBook, redoneSlot, markedSlot}
-use Rattle.decide.specs.declared.Scalars.{Scalars}
-use Rattle.decide.specs.Scalars.{nobody, isMember, isPeer, disallowed, steppedUp}
+use Rattle.decide.specs.Scalars.{isMember, isPeer, steppedUp, ignoresTimeout}
 use Rattle.decide.specs.Bars.{unknownBars}
 use Rattle.replica.specs.declared.Window.{Window}
 use Rattle.replica.specs.declared.Replica.{Replica}
@@ -23,10 +22,7 @@ use Rattle.replica.specs.Record.{Outcome, kept, withWindow, place, numbe
 use Rattle.replica.specs.Fit.{ready}
 use Rattle.replica.specs.Messages.{promise}
 
--- ── Timeout: become_a_leader "is ignored if a leader is known and is not the timeout's source, or if disallowed" ──
-abbrev pub ignoresTimeout : Scalars → ℕ → Bool
-ignoresTimeout sc source = (not (eqb (sc .leader) nobody) && not (eqb (sc .leader) source)) || disallowed sc
-
+-- ── Timeout: become_a_leader "is ignored if a leader is known and is not the timeout's source, or if disallowed" (`ignoresTimeout`) ──
 -- the places of the first and the last slot below Committed, the length where there is none
 unfoldable pub firstOpen : Window → ℕ
 firstOpen w = scan (λ i. leb committed (slotAt w i .status)) 0 (w .len)

@@ -18,12 +18,13 @@ use Rattle.slots.specs.declared.Slot.{Slot}
 use Rattle.slots.specs.Slots.{preparing, newBook, noSlot, preparedSlot, appendedSlot, enteredSlot}
 use Rattle.decide.specs.declared.Scalars.{Scalars}
 use Rattle.decide.specs.declared.Decided.{Decided}
+use Rattle.decide.specs.declared.Reply.{Reply}
 use Rattle.decide.specs.Scalars.{leads, isPeer, followed, stepsDown}
 use Rattle.decide.specs.Bars.{withBar, withFallen}
 use Rattle.decide.specs.Decide.{decideAccept, decideAcceptReply, awaitsPrepare, decideVote, isCounted, decideCount, proposal}
+use Rattle.decide.specs.PrepareReply.{inLog, withVoted}
 use Rattle.replica.specs.declared.Window.{Window}
 use Rattle.replica.specs.declared.Replica.{Replica}
-use Rattle.replica.specs.declared.Reply.{Reply}
 use Rattle.replica.specs.Record.{Outcome, kept, noting, settled, withWindow, place, number, logEnd, slotAt, putSlot, grown, sweep}
 use Rattle.replica.specs.Fit.{ready}
 
@@ -121,7 +122,7 @@ repliedOn r w i j peer m acts =
 
 -- 6: the slot lies from trigger to endprep, and the trigger in the log
 abbrev pub inRange : Replica → Reply → Bool
-inRange r m = leb (m .trigger) (m .slot) && (leb (m .slot) (m .endprep) && (leb (r .sc .start) (m .trigger) && ltb (m .trigger) (logEnd r)))
+inRange r m = inLog (r .sc .start) (r .window .len) m
 
 -- a refusal keeps the replica as it was before the peer accept table was updated
 abbrev pub orKept : Replica → Outcome → Outcome
@@ -141,16 +142,7 @@ replyOn r peer m =
     (appendActs r (place (r .sc) (m .slot)))))))))
 
 abbrev pub cleanReply : Reply → Reply
-cleanReply m =
-    record {
-      slot = m .slot;
-      trigger = m .trigger;
-      endprep = m .endprep;
-      ballot = m .ballot;
-      voted = m .voted;
-      vote = record { ballot = m .vote .ballot; batch = clean (m .vote .batch) };
-      bar = m .bar;
-    }
+cleanReply m = withVoted m (clean (m .vote .batch))
 
 unfoldable pub prepareReplyStep : Replica → ℕ → ℕ → Reply → Outcome
 prepareReplyStep r room peer m =

@@ -1,8 +1,8 @@
 -- 003, quorumread.rs: opening a read (01's form) and a reply to one.
-use mathlib.Core.Bool.{Bool, true, false, not, _||_}
+use mathlib.Core.Bool.{Bool, true, false, not}
 use mathlib.Core.List.{List, [], _∷_}
 use Prim.Native.Nat.{ℕ}
-use lib.Dec.{ltb, leb, eqb}
+use lib.Dec.{ltb, leb}
 use lib.ListN.{getD}
 use Rattle.base.specs.Pick.{pick}
 use Rattle.base.specs.Gather.{gather}
@@ -12,7 +12,7 @@ use Rattle.tally.specs.declared.Reads.{Reads}
 use Rattle.tally.specs.declared.Opened.{Opened}
 use Rattle.tally.specs.declared.Replied.{Replied}
 use Rattle.tally.specs.Merge.{bestAt, answerOf}
-use Rattle.tally.specs.Open.{noRead, findRead, openRead, closeRead, putRead, replyTo}
+use Rattle.tally.specs.Open.{noRead, findRead, openRead, closeRead, putRead, replyTo, staysOpen}
 use Rattle.actions.specs.declared.Action.the-variants.{ReadAnswer}
 use Rattle.actions.specs.Actions.{Act, bare}
 use Rattle.decide.specs.Scalars.{isMember, quorum}
@@ -39,7 +39,7 @@ unfoldable pub repliedStep : Replica → ℕ → Replied → Outcome
 repliedStep r i d =
     pick (d .closes)
     (record { answer = 0; replica = withReads r (closeRead (r .reads) i); actions = gather (λ k. readAct (r .sc .leader) (d .read) k ∷ []) 0 (d .answers) })
-    (pick (eqb (d .answer) 0 || eqb (d .answer) 12) (record { answer = d .answer; replica = withReads r (putRead (r .reads) i (d .read)); actions = [] })
+    (pick (staysOpen (d .answer)) (record { answer = d .answer; replica = withReads r (putRead (r .reads) i (d .read)); actions = [] })
     (kept (d .answer) r))
 
 -- 10: a reply list over 8; "An unknown read id is ignored."

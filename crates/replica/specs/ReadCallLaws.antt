@@ -1,6 +1,6 @@
 -- The laws of the read calls: the loop that writes a closed read's answers, and each way through a call.
 use mathlib.Core.Path.{_≡_, refl, sym, ap, _∙_}
-use mathlib.Core.Bool.{Bool, true, false, not, _||_}
+use mathlib.Core.Bool.{Bool, true, false, not}
 use mathlib.Core.List.{List, [], _∷_}
 use Prim.Native.Nat.{ℕ, _+_, _≤_, _<_}
 use native.Mathlib.Nat.{zero-add}
@@ -8,7 +8,7 @@ use native.Mathlib.Omega.{arith}
 use lib.Dec.{ltb, leb, eqb}
 use lib.ListN.{getD, length-append}
 use borrow.Author.Tests.{lt-ltb, le-ltb, le-leb, lt-leb, leb-true}
-use Rattle.base.specs.Pick.{pick, and-left}
+use Rattle.base.specs.Pick.{pick, and-left, refuted, granted}
 use Rattle.base.specs.Gather.{gather, gather-more}
 use Rattle.tally.specs.declared.ReadAnswer.{ReadAnswer}
 use Rattle.tally.specs.declared.Tally.{Tally}
@@ -17,16 +17,16 @@ use Rattle.tally.specs.declared.Reads.{Reads}
 use Rattle.tally.specs.declared.Opened.{Opened}
 use Rattle.tally.specs.declared.Replied.{Replied}
 use Rattle.tally.specs.Merge.{bestAt, answerOf}
-use Rattle.tally.specs.Open.{noRead, findRead, openRead, closeRead, putRead, replyTo}
+use Rattle.tally.specs.Open.{noRead, findRead, openRead, closeRead, putRead, replyTo, fitReads, staysOpen}
 use Rattle.tally.specs.Laws.{reply-few}
+use Rattle.tally.specs.ReadLaws.{read-fits}
 use Rattle.actions.specs.declared.Action.the-variants.{ReadAnswer as answered}
 use Rattle.actions.specs.Actions.{Act, bare, writeAt, putAct}
 use Rattle.actions.specs.Laws.{put-in, room-start, room-turn}
 use Rattle.decide.specs.Scalars.{quorum}
 use Rattle.replica.specs.declared.Replica.{Replica}
 use Rattle.replica.specs.Record.{Outcome, kept}
-use Rattle.replica.specs.Fit.{ready, fitReads}
-use Rattle.replica.specs.FitLaws.{refuted, granted, read-fits}
+use Rattle.replica.specs.Fit.{ready}
 use Rattle.replica.specs.Admit.{fromMember}
 use Rattle.replica.specs.AdmitLaws.{unready-kept, ready-goes, gate-member, gate-shut, gate-open}
 use Rattle.replica.specs.ActingLaws.{acted}
@@ -66,12 +66,12 @@ module _ (r : Replica) (i : ℕ) (d : Replied) where
   unfolding repliedStep
   replied-closes e a f = acted (answerActs (r .sc .leader) (d .read) (d .answers)) _ _ refl (a .many) (a .written) (rw (e, f))
 
-  pub replied-stays : {b : Bool} {rs : Reads} → d .closes ≡ false → b ≡ (eqb (d .answer) 0 || eqb (d .answer) 12) → not b ≡ false
+  pub replied-stays : {b : Bool} {rs : Reads} → d .closes ≡ false → b ≡ staysOpen (d .answer) → not b ≡ false
       → rs ≡ putRead (r .reads) i (d .read) → repliedStep r i d ≡ kept (d .answer) (withReads r rs)
   unfolding repliedStep
   replied-stays e f g h = rw (e, granted f g, h)
 
-  pub replied-refused : {b : Bool} → d .closes ≡ false → b ≡ (eqb (d .answer) 0 || eqb (d .answer) 12) → not b ≡ true
+  pub replied-refused : {b : Bool} → d .closes ≡ false → b ≡ staysOpen (d .answer) → not b ≡ true
       → repliedStep r i d ≡ kept (d .answer) r
   unfolding repliedStep
   replied-refused e f g = rw (e, refuted f g)

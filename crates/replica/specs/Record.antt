@@ -3,11 +3,10 @@ use mathlib.Core.Path.{_≡_}
 use mathlib.Core.Bool.{Bool, true, false, not, _&&_, _||_}
 use mathlib.Core.List.{List, []}
 use Prim.Native.Nat.{ℕ, _+_, _-_}
-use lib.Dec.{ltb, leb, eqb}
+use lib.Dec.{leb, eqb}
 use lib.ListN.{length, getD, set, replicate}
 use Rattle.base.specs.Pick.{pick}
 use Rattle.base.specs.Over.{over}
-use Rattle.members.specs.Groups.{groupSize}
 use Rattle.batch.specs.declared.Batch.{Batch}
 use Rattle.batch.specs.Keys.{emptyTable, refresh, overfull}
 use Rattle.tally.specs.Open.{noReads}
@@ -17,7 +16,7 @@ use Rattle.slots.specs.Slots.{nullSlot, noSlot}
 use Rattle.decide.specs.declared.Scalars.{Scalars}
 use Rattle.decide.specs.declared.PeerBars.{PeerBars}
 use Rattle.decide.specs.declared.Decided.{Decided}
-use Rattle.decide.specs.Scalars.{nobody, unknownBar}
+use Rattle.decide.specs.Scalars.{nobody, unknownBar, mayBe}
 use Rattle.decide.specs.Bars.{unknownBars}
 use Rattle.replica.specs.declared.Window.{Window}
 use Rattle.replica.specs.declared.Replica.{Replica}
@@ -99,10 +98,6 @@ zeroReplica =
       keys = emptyTable;
       reads = noReads;
     }
-
--- 10: "new replica with numbers outside the above"
-abbrev pub mayBe : ℕ → ℕ → ℕ → ℕ → Bool
-mayBe id group start options = groupSize group && (ltb id group && (leb start 4294967296 && leb options 3))
 
 unfoldable pub newReplica : ℕ → ℕ → ℕ → ℕ → Made
 newReplica id group start options =

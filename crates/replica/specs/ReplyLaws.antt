@@ -1,15 +1,14 @@
 -- The laws of a PrepareReply: what is weighed before anything is written is what the definition does.
 use mathlib.Core.Path.{_≡_, refl, sym, ap, _∙_}
-use mathlib.Core.Bool.{Bool, true, false, not, _&&_, and-false}
-use mathlib.Core.Logic.{⊎-elim}
+use mathlib.Core.Bool.{Bool, true, false, not, _&&_}
 use mathlib.Core.List.{List, _++_, append-nil}
 use Prim.Native.Nat.{ℕ, _+_, _-_, _≤_, _<_}
 use native.Mathlib.Omega.{arith}
 use lib.Dec.{ltb, leb, eqb}
 use lib.ListN.{length, length-append}
 use lib.Seq.{getD-set-same, getD-set-other, set-getD}
-use borrow.Author.Tests.{not-true, not-false, lt-ltb, le-ltb, le-leb, lt-leb, eq-eqb, ne-eqb, ltb-true, ltb-false, leb-true, eqb-true, eqb-false}
-use Rattle.base.specs.Pick.{pick, larger-left, pick-both, pick-cases, and-both, decide}
+use borrow.Author.Tests.{not-true, not-false, lt-ltb, le-ltb, le-leb, lt-leb, eq-eqb, ne-eqb, eqb-true, eqb-false}
+use Rattle.base.specs.Pick.{pick, larger-left, pick-both, pick-cases}
 use Rattle.base.specs.Over.{over-self, length-over}
 use Rattle.base.specs.Gather.{gather, gather-self}
 use Rattle.batch.specs.declared.Batch.{Batch}
@@ -25,14 +24,16 @@ use Rattle.slots.specs.Slots.{noSlot, newBook, appendedSlot, enteredSlot}
 use Rattle.decide.specs.declared.Scalars.{Scalars}
 use Rattle.decide.specs.declared.PeerBars.{PeerBars}
 use Rattle.decide.specs.declared.Decided.{Decided}
+use Rattle.decide.specs.declared.Reply.{Reply}
+use Rattle.decide.specs.declared.Weighed.{Weighed}
 use Rattle.decide.specs.Scalars.{leads}
 use Rattle.decide.specs.Bars.{withBar, withFallen}
 use Rattle.decide.specs.Laws.{fallen-is}
 use Rattle.decide.specs.Decide.{awaitsPrepare, decideVote, isCounted, decideCount}
+use Rattle.decide.specs.PrepareReply.{withVoted}
+use Rattle.decide.specs.Weighing.{unmoved, weighedCount, weighedVote, weighed}
 use Rattle.replica.specs.declared.Window.{Window}
 use Rattle.replica.specs.declared.Replica.{Replica}
-use Rattle.replica.specs.declared.Reply.{Reply}
-use Rattle.replica.specs.declared.Weighed.{Weighed}
 use Rattle.replica.specs.declared.Placed.{Placed}
 use Rattle.replica.specs.Record.{Outcome, kept, noting, withWindow, place, number, slotAt, putSlot, sweep}
 use Rattle.replica.specs.Messages.{appended, appendActs, enterActs, countedOn, votedOn, repliedOn, inRange, orKept, replyOn, cleanReply, prepareReplyStep}
@@ -42,7 +43,7 @@ use Rattle.replica.specs.AdmitLaws.{gate-peer, peer-facts}
 use Rattle.replica.specs.Sweeps.{extended, Ranged, Swept, Promises}
 use Rattle.replica.specs.SweepLaws.{extended-appended, appended-within}
 use Rattle.replica.specs.ActingLaws.{acted, noting-passes, noting-full, noting-acts}
-use Rattle.replica.specs.Replying.{ReplyFits, PlacesFit, inLog, withVoted, unmoved, weighedCount, weighedVote, weighed, sweptTo, placed, carried, replyAt}
+use Rattle.replica.specs.Replying.{ReplyFits, PlacesFit, sweptTo, placed, carried, replyAt}
 
 -- one test on both sides
 pick-meet : {A B C : Type 0} (f : A → C) (g : B → C) (t : Bool) {x y : A} {a b : B} → (t ≡ true → f x ≡ g a) → (t ≡ false → f y ≡ g b)
@@ -260,71 +261,7 @@ module _ (r : Replica) (peer : ℕ) (m : Reply) (i j : ℕ) (w : Window) (fallen
         (write-then room mid after first second 0 k (omega arith) n (x .written) (z .written))
         (reply-carried ∙ carried-acts r _ w i j m first g a (sym f ∙ h) ∙ rw (z .window, u, v))
 
--- ── the code that weighs, way by way ──
-module _ (sc : Scalars) (s t : Slot) (own : Bool) (peer : ℕ) (m : Reply) where
-  pub weigh-outdated : awaitsPrepare s (m .ballot) ≡ false → unmoved 0 sc s t ≡ weighed sc s t own peer m
-  unfolding weighed
-  weigh-outdated h = rw h
-
-  module _ (h : awaitsPrepare s (m .ballot) ≡ true) {d : Decided} (v : d ≡ decideVote sc s (m .ballot) (m .voted) (m .vote)) where
-    weigh-vote : weighedVote sc s t own peer m d ≡ weighed sc s t own peer m
-    unfolding weighed
-    weigh-vote = rw (h, v)
-
-    pub weigh-refused : (d .answer ≡ 0 → ⊥) → unmoved (d .answer) sc s t ≡ weighed sc s t own peer m
-    weigh-refused a = rw (ne-eqb (d .answer) 0 a) at weigh-vote
-
-    module _ (a : d .answer ≡ 0) {base : Slot} (b : base ≡ pick own (d .slot) t) where
-      pub weigh-more : (m .slot ≡ m .endprep → ⊥)
-          → record { answer = 0; noted = d .noted; enters = false; sc = d .sc; slot = d .slot; trigger = base } ≡ weighed sc s t own peer m
-      weigh-more z = rw b (rw (eq-eqb (d .answer) 0 a, ne-eqb (m .slot) (m .endprep) z) at weigh-vote)
-
-      module _ (z : m .slot ≡ m .endprep) {e : Decided} (k : e ≡ decideCount sc base peer (m .ballot)) where
-        weigh-count : weighedCount sc s t d e ≡ weighed sc s t own peer m
-        weigh-count = rw (k, b) (rw (eq-eqb (d .answer) 0 a, eq-eqb (m .slot) (m .endprep) z) at weigh-vote)
-
-        pub weigh-overtaken : (e .answer ≡ 0 → ⊥) → unmoved (e .answer) sc s t ≡ weighed sc s t own peer m
-        weigh-overtaken n = rw (ne-eqb (e .answer) 0 n) at weigh-count
-
-        pub weigh-counted : {enters : Bool} → e .answer ≡ 0 → enters ≡ isCounted (e .sc) (e .slot)
-            → record { answer = 0; noted = d .noted; enters = enters; sc = e .sc; slot = d .slot; trigger = e .slot } ≡ weighed sc s t own peer m
-        weigh-counted n q = rw q (rw (eq-eqb (e .answer) 0 n) at weigh-count)
-
 -- ── the tests before it ──
--- a place below the length is a slot below the log end
-place-below : (start slot len : ℕ) → start ≤ slot → ltb (slot - start) len ≡ ltb slot (start + len)
-place-below start slot len h =
-    ⊎-elim
-    (λ (e : ltb slot (start + len) ≡ true). lt-ltb (slot - start) len (omega (arith, ltb-true slot (start + len) e)) ∙ sym e)
-    (λ (e : ltb slot (start + len) ≡ false). le-ltb (slot - start) len (omega (arith, ltb-false slot (start + len) e)) ∙ sym e)
-    (decide (ltb slot (start + len)))
-
-module _ (start len : ℕ) (m : Reply) where
-  pub range-low : m .slot < m .trigger → false ≡ inLog start len m
-  range-low h = rw (lt-leb (m .trigger) (m .slot) h)
-
-  pub range-high : m .endprep < m .slot → false ≡ inLog start len m
-  range-high h = rw (lt-leb (m .slot) (m .endprep) h, and-false)
-
-  pub range-before : m .trigger < start → false ≡ inLog start len m
-  range-before h = rw (lt-leb start (m .trigger) h, and-false, and-false)
-
-  pub range-last : m .trigger ≤ m .slot → m .slot ≤ m .endprep → start ≤ m .trigger → ltb (m .trigger - start) len ≡ inLog start len m
-  range-last a b e =
-      rw (le-leb (m .trigger) (m .slot) a, le-leb (m .slot) (m .endprep) b, le-leb start (m .trigger) e) (place-below start (m .trigger) len e)
-
-  -- what it says of the trigger
-  pub record InLog : Type 0 where
-    pub from : start ≤ m .trigger
-    pub below : m .trigger < start + len
-
-  pub range-facts : inLog start len m ≡ true → InLog
-  range-facts e =
-      let a = and-both (leb (m .trigger) (m .slot)) _ e in
-      let b = and-both (leb (m .slot) (m .endprep)) _ (a .1) in
-      let d = and-both (leb start (m .trigger)) _ (b .1) in
-      record { from = leb-true _ _ (d .0); below = ltb-true _ _ (d .1) }
-
 -- the tests from the ballot on, each where those before it have passed
 abbrev pub bookAt : Replica → Reply → Bool
 bookAt r m = slotAt (r .window) (place (r .sc) (m .trigger)) .leader .present

@@ -1,24 +1,19 @@
--- A PrepareReply inside the crate: what it decides from the scalars and two slots, what is done of it, and what the functions count on.
-use mathlib.Core.Bool.{Bool, false, not, _&&_}
+-- A PrepareReply inside the crate: what is done of what was weighed, and what the functions count on.
+use mathlib.Core.Bool.{not, _&&_}
 use mathlib.Core.List.{List, _++_}
 use Prim.Native.Nat.{ℕ, _+_, _≤_, _<_}
-use lib.Dec.{ltb, leb, eqb}
+use lib.Dec.{eqb}
 use lib.ListN.{length}
 use Rattle.base.specs.Pick.{pick}
 use Rattle.base.specs.Gather.{gather}
-use Rattle.batch.specs.declared.Batch.{Batch}
 use Rattle.batch.specs.Keys.{refresh, overfull}
 use Rattle.actions.specs.Actions.{Act}
-use Rattle.slots.specs.declared.Slot.{Slot}
 use Rattle.slots.specs.Slots.{enteredSlot}
-use Rattle.decide.specs.declared.Scalars.{Scalars}
 use Rattle.decide.specs.declared.PeerBars.{PeerBars}
-use Rattle.decide.specs.declared.Decided.{Decided}
-use Rattle.decide.specs.Decide.{awaitsPrepare, decideVote, isCounted, decideCount}
+use Rattle.decide.specs.declared.Reply.{Reply}
+use Rattle.decide.specs.declared.Weighed.{Weighed}
 use Rattle.replica.specs.declared.Window.{Window}
 use Rattle.replica.specs.declared.Replica.{Replica}
-use Rattle.replica.specs.declared.Reply.{Reply}
-use Rattle.replica.specs.declared.Weighed.{Weighed}
 use Rattle.replica.specs.Record.{Outcome, kept, slotAt, putSlot, sweep}
 use Rattle.replica.specs.Messages.{tabled, appended, appendActs, enterActs, repliedOn, orKept}
 
@@ -36,45 +31,6 @@ pub record PlacesFit (r : Replica) (room : List ℕ) (i j : ℕ) : Type 0 where
   pub within : r .window .len ≤ 64
   pub place : i < 64
   pub trigger : j < r .window .len
-
--- Messages.inRange, by the start and the length of the log
-abbrev pub inLog : ℕ → ℕ → Reply → Bool
-inLog start len m = leb (m .trigger) (m .slot) && (leb (m .slot) (m .endprep) && (leb start (m .trigger) && ltb (m .trigger) (start + len)))
-
-abbrev pub withVoted : Reply → Batch → Reply
-withVoted m b =
-    record {
-      slot = m .slot;
-      trigger = m .trigger;
-      endprep = m .endprep;
-      ballot = m .ballot;
-      voted = m .voted;
-      vote = record { ballot = m .vote .ballot; batch = b };
-      bar = m .bar;
-    }
-
--- refused, or nothing but the peer accept table and the appended slots
-abbrev pub unmoved : ℕ → Scalars → Slot → Slot → Weighed
-unmoved answer sc s t = record { answer = answer; noted = false; enters = false; sc = sc; slot = s; trigger = t }
-
--- d is the vote's decision, e the count's
-abbrev pub weighedCount : Scalars → Slot → Slot → Decided → Decided → Weighed
-weighedCount sc s t d e =
-    pick (not (eqb (e .answer) 0)) (unmoved (e .answer) sc s t)
-    (record { answer = 0; noted = d .noted; enters = isCounted (e .sc) (e .slot); sc = e .sc; slot = d .slot; trigger = e .slot })
-
-abbrev pub weighedVote : Scalars → Slot → Slot → Bool → ℕ → Reply → Decided → Weighed
-weighedVote sc s t own peer m d =
-    pick (not (eqb (d .answer) 0)) (unmoved (d .answer) sc s t)
-    (pick (not (eqb (m .slot) (m .endprep)))
-    (record { answer = 0; noted = d .noted; enters = false; sc = d .sc; slot = d .slot; trigger = pick own (d .slot) t })
-    (weighedCount sc s t d (decideCount sc (pick own (d .slot) t) peer (m .ballot))))
-
--- the slot s and its trigger t, which are one where `own` holds
-unfoldable pub weighed : Scalars → Slot → Slot → Bool → ℕ → Reply → Weighed
-weighed sc s t own peer m =
-    pick (not (awaitsPrepare s (m .ballot))) (unmoved 0 sc s t)
-    (weighedVote sc s t own peer m (decideVote sc s (m .ballot) (m .voted) (m .vote)))
 
 -- what was weighed for the places i and j of a window, carried out: the two slots, the sweep into Accept where the quorum is made, the table of keys
 abbrev pub sweptTo : Window → ℕ → Weighed → ℕ

@@ -10,9 +10,9 @@ use Rattle.tally.specs.declared.Tally.{Tally}
 use Rattle.actions.specs.declared.Action.{Action}
 use Rattle.actions.specs.declared.Action.the-variants.{PrepareBal, AcceptData, CommitSlot, Prepare, PrepareReply, Accept, AcceptReply, CommitNotice, Heartbeat, StatusUp, StatusDown, Execute, ReadAnswer}
 use Rattle.actions.specs.Actions.{Act, writeActions}
+use Rattle.decide.specs.declared.Reply.{Reply}
 use Rattle.replica.specs.declared.Replica.{Replica}
 use Rattle.replica.specs.declared.Handled.{Handled}
-use Rattle.replica.specs.declared.Reply.{Reply}
 use Rattle.replica.specs.declared.Done.{Done}
 use Rattle.replica.specs.Record.{Outcome}
 use Rattle.replica.specs.Messages.{prepareStep, prepareReplyStep, acceptStep, acceptReplyStep}

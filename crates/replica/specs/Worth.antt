@@ -5,12 +5,14 @@ use mathlib.Core.List.{List, []}
 use Prim.Native.Nat.{ℕ, zero, suc}
 use native.Mathlib.Omega.{arith}
 use lib.ListN.{length, replicate, length-replicate}
+use Rattle.tally.specs.Open.{fitReads}
 use Rattle.actions.specs.Actions.{Act, writeActions}
 use Rattle.slots.specs.Slots.{fitSlot}
+use Rattle.decide.specs.Scalars.{fitScalars}
 use Rattle.replica.specs.declared.Replica.{Replica}
 use Rattle.replica.specs.declared.Handled.{Handled}
 use Rattle.replica.specs.Record.{Outcome, kept, newReplica, grown}
-use Rattle.replica.specs.Fit.{fit, fitScalars, fitSlots, fitReads}
+use Rattle.replica.specs.Fit.{fit, fitSlots}
 use Rattle.replica.specs.Messages.{prepareOn, prepareStep, lastUsed}
 use Rattle.replica.specs.Step.{Call, callPrepare, step, handled, Told}
 

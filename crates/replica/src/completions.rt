@@ -5,40 +5,18 @@ ghost use Prim.Native.Nat.{_<_};
 ghost use lib.ListN.{length};
 ghost use Rattle.base.specs.Pick.{pick};
 ghost use Rattle.replica.specs.Record.{slotAt};
-ghost use Rattle.replica.specs.Durability.{ownReply, noticeActs, preparedDone, movedAccept, acceptedDone, passOn, committedDone, doneOn, loggedOn, loggedStep};
+ghost use Rattle.replica.specs.Durability.{noticeActs, preparedDone, movedAccept, acceptedDone, passOn, committedDone, doneOn, loggedOn, loggedStep};
 ghost use Rattle.replica.specs.Step.{Told};
 ghost use Rattle.replica.specs.Sweeps.{TwoFit};
-ghost use Rattle.replica.specs.CompletionFits.{notifies, BarsFit, CommitFits, DoneFits, PassFits, Wrote};
+ghost use Rattle.replica.specs.CompletionFits.{BarsFit, CommitFits, DoneFits, PassFits, Wrote};
 use super::Done;
 use super::Entry;
 use super::Handled;
 use super::Replica;
-use super::Reply;
 use actions::Action;
 use actions::Notice;
 use actions::put_action;
 use decide::Scalars;
-use decide::sent_vote;
-use slots::Slot;
-
-// Whether a leader that notifies urgently has committed its whole log, at the ballot that it prepared.
-fn notifies(sc: Scalars, bar: u64, end: u64) -> bool
-    ensures { λ r. ⌜ r ≡ notifies sc bar end ⌝ }
-{
-    if bar != end {
-        return false;
-    }
-    if sc.leader != sc.id {
-        return false;
-    }
-    if sc.bal_prepared == 0 {
-        return false;
-    }
-    if sc.bal_prepared != sc.bal_max_seen {
-        return false;
-    }
-    sc.urgent()
-}
 
 // The CommitNotice, at the room's n-th place, where commit_bar moved. The place of the next action.
 fn put_notice(room: &mut [u64], n: usize, still: bool, sc: Scalars, bar: u64, end: u64) -> usize
@@ -48,7 +26,7 @@ fn put_notice(room: &mut [u64], n: usize, still: bool, sc: Scalars, bar: u64, en
     if still {
         return n;
     }
-    if !notifies(sc, bar, end) {
+    if !sc.notifies(bar, end) {
         return n;
     }
     let notice = Action::CommitNotice(Notice {
@@ -57,22 +35,6 @@ fn put_notice(room: &mut [u64], n: usize, still: bool, sc: Scalars, bar: u64, en
     });
     put_action(room, n, notice, [0u64; 8]);
     n + 1
-}
-
-// A leader's reply to itself, for a slot of its own Prepare.
-fn own_reply(sc: Scalars, s: Slot, slot: u64) -> Reply
-    ensures { λ r. ⌜ r ≡ ownReply sc s slot ⌝ }
-{
-    let vote = sent_vote(s);
-    Reply {
-        slot: slot,
-        trigger: s.leader.trigger,
-        endprep: s.leader.endprep,
-        ballot: s.ballot,
-        voted: 0 < s.vote.ballot,
-        vote: vote,
-        bar: sc.accept_bar,
-    }
 }
 
 impl Replica {
@@ -150,7 +112,7 @@ impl Replica {
         if s.leader.endprep < slot {
             return self.kept(0);
         }
-        let m = own_reply(sc, s, slot);
+        let m = sc.own_reply(s, slot);
         self.reply_on(room, sc.id, m)
     }
 

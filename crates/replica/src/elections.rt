@@ -1,8 +1,7 @@
 // 001, leadership.rs: a timeout (become_a_leader) and CommitNotice (advance_commit_bar).
-ghost use mathlib.Core.Path.{_≡_};
 ghost use lib.ListN.{length};
 ghost use Rattle.members.specs.declared.NextBallot.the-variants.{Ballot};
-ghost use Rattle.replica.specs.Leadership.{ignoresTimeout, leadOn, stepUp, timeoutStep, markOn, commitNoticeStep};
+ghost use Rattle.replica.specs.Leadership.{leadOn, stepUp, timeoutStep, markOn, commitNoticeStep};
 ghost use Rattle.replica.specs.Step.{Told};
 ghost use Rattle.replica.specs.Sweeps.{Ranged};
 ghost use Rattle.replica.specs.ElectionFits.{StepFits, LeadFits};
@@ -12,25 +11,10 @@ use super::Window;
 use actions::Action;
 use actions::Ask;
 use actions::put_action;
-use decide::NOBODY;
-use decide::Scalars;
 use decide::unknown_bars;
 use members::NextBallot;
 use members::next_ballot;
 use slots::new_book;
-
-// Whether a timeout is ignored: step-up is disallowed, or a leader is known and is not the timeout's source.
-fn ignores_timeout(sc: Scalars, source: u64) -> bool
-    ensures { λ r. ⌜ r ≡ ignoresTimeout sc source ⌝ }
-{
-    if sc.disallowed() {
-        return true;
-    }
-    if sc.leader == NOBODY {
-        return false;
-    }
-    sc.leader != source
-}
 
 impl Replica {
     // A timeout of the timer for `source`.
@@ -42,7 +26,7 @@ impl Replica {
             return self.kept(first);
         }
         let sc = self.sc;
-        if ignores_timeout(sc, source) {
+        if sc.ignores_timeout(source) {
             return self.kept(0);
         }
         let next = next_ballot(sc.bal_max_seen, sc.id);

@@ -1,10 +1,8 @@
 // A new replica, the fit test (answer 1), and what every call is tested for first.
 ghost use mathlib.Core.Path.{_≡_};
 ghost use Prim.Native.Nat.{_≤_};
-ghost use mathlib.Core.Bool.{_||_};
-ghost use lib.Dec.{eqb, ltb};
-ghost use Rattle.replica.specs.Record.{mayBe, noSlots, newReplica};
-ghost use Rattle.replica.specs.Fit.{fitScalars, fitSlots, fitRead, fitReads, fit, ready};
+ghost use Rattle.replica.specs.Record.{noSlots, newReplica};
+ghost use Rattle.replica.specs.Fit.{fitSlots, fit, ready};
 ghost use Rattle.replica.specs.Admit.{fromMember, fromPeer, fromOwner};
 use super::Handled;
 use super::Made;
@@ -13,26 +11,9 @@ use super::Window;
 use batch::empty_table;
 use decide::PeerBars;
 use decide::Scalars;
+use decide::may_be;
 use slots::null_slot;
-use tally::Read;
-use tally::Reads;
 use tally::open_reads::no_reads;
-
-// Whether a new replica may have these numbers.
-fn may_be(id: u64, group: u64, start: u64, options: u64) -> bool
-    ensures { λ r. ⌜ r ≡ mayBe id group start options ⌝ }
-{
-    if !members::is_group_size(group) {
-        return false;
-    }
-    if group <= id {
-        return false;
-    }
-    if 4294967296 < start {
-        return false;
-    }
-    options <= 3
-}
 
 // No slots.
 fn no_slots() -> Window
@@ -45,51 +26,6 @@ fn no_slots() -> Window
     }
 }
 
-// Whether the leader is nobody or a member.
-fn known_leader(leader: u64, group: u64) -> bool
-    ensures { λ r. ⌜ r ≡ (eqb leader 255 || ltb leader group) ⌝ }
-{
-    if leader == 255 {
-        return true;
-    }
-    leader < group
-}
-
-// Whether the numbers are fit for a log of so many slots.
-fn fit_scalars(sc: Scalars, len: usize) -> bool
-    ensures { λ r. ⌜ r ≡ fitScalars sc len ⌝ }
-{
-    if !members::is_group_size(sc.group) {
-        return false;
-    }
-    if sc.group <= sc.id {
-        return false;
-    }
-    if 4294967296 < sc.start {
-        return false;
-    }
-    if 64 < len {
-        return false;
-    }
-    if !known_leader(sc.leader, sc.group) {
-        return false;
-    }
-    if sc.exec_bar < sc.start {
-        return false;
-    }
-    if sc.commit_bar < sc.exec_bar {
-        return false;
-    }
-    let end = sc.start + len as u64;
-    if end < sc.commit_bar {
-        return false;
-    }
-    if sc.accept_bar < sc.start {
-        return false;
-    }
-    sc.accept_bar <= end
-}
-
 // Whether every slot in use is fit.
 fn fit_slots(w: Window, group: u64) -> bool
     requires { ⌜ w .len ≤ 64 ⌝ }
@@ -98,31 +34,6 @@ fn fit_slots(w: Window, group: u64) -> bool
     for i in 0..w.len {
         let s = w.slots[i];
         if !s.is_fit(group) {
-            return false;
-        }
-    }
-    true
-}
-
-fn fit_read(read: Read, group: u64) -> bool
-    ensures { λ r. ⌜ r ≡ fitRead group read ⌝ }
-{
-    if 8 < read.tally.count {
-        return false;
-    }
-    members::within(read.acks, group)
-}
-
-// Whether every read in use is fit.
-fn fit_reads(rs: Reads, group: u64) -> bool
-    ensures { λ r. ⌜ r ≡ fitReads group rs ⌝ }
-{
-    if 16 < rs.count {
-        return false;
-    }
-    for i in 0..rs.count {
-        let read = rs.reads[i];
-        if !fit_read(read, group) {
             return false;
         }
     }
@@ -206,7 +117,8 @@ impl Replica {
         ensures { λ r. ⌜ r ≡ fit self ⌝ }
     {
         let w = self.window;
-        if !fit_scalars(self.sc, w.len) {
+        let sc = self.sc;
+        if !sc.is_fit(w.len) {
             return false;
         }
         if !fit_slots(w, self.sc.group) {
@@ -216,7 +128,7 @@ impl Replica {
             return false;
         }
         let reads = self.reads;
-        fit_reads(reads, self.sc.group)
+        reads.is_fit(self.sc.group)
     }
 
     // Whether the room is long enough and the record fit: else 1.

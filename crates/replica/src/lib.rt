@@ -14,7 +14,6 @@ use batch::KeyTable;
 use decide::PeerBars;
 use decide::Scalars;
 use slots::Slot;
-use slots::Vote;
 use tally::Reads;
 
 // The log from the start slot on: the first `len` slots are present.
@@ -44,17 +43,6 @@ pub struct Made {
     pub replica: Replica,
 }
 
-// A PrepareReply as it arrives. voted: whether a vote is present.
-pub struct Reply {
-    pub slot: u64,
-    pub trigger: u64,
-    pub endprep: u64,
-    pub ballot: u64,
-    pub voted: bool,
-    pub vote: Vote,
-    pub bar: u64,
-}
-
 // Which entry a log completion names.
 pub enum Entry {
     PrepareBal,
@@ -79,15 +67,4 @@ pub(crate) struct Turned {
 pub(crate) struct Placed {
     pub next: usize,
     pub window: Window,
-}
-
-// What a PrepareReply decides: the answer; whether the slot's batch goes into the key table and the slots from the trigger on enter
-// Accept; the scalars, the slot and the trigger's after it.
-pub(crate) struct Weighed {
-    pub answer: u64,
-    pub noted: bool,
-    pub enters: bool,
-    pub sc: Scalars,
-    pub slot: Slot,
-    pub trigger: Slot,
 }

@@ -1,8 +1,6 @@
 // 003, quorumread.rs: opening a read (01's form) and a reply to one.
 ghost use mathlib.Core.Path.{_≡_};
-ghost use mathlib.Core.Bool.{_||_};
 ghost use mathlib.Core.List.{[], _∷_};
-ghost use lib.Dec.{eqb};
 ghost use lib.ListN.{length};
 ghost use Rattle.actions.specs.Actions.{writeAt};
 ghost use Rattle.replica.specs.Quorumread.{openReadStep, readAct, repliedStep, readReplyStep};
@@ -18,6 +16,7 @@ use tally::Replied;
 use tally::Tally;
 use tally::merge::answer_of;
 use tally::open_reads::reply_to;
+use tally::open_reads::stays_open;
 
 // What a closed read says of the key at place i, as the room's i-th action.
 fn put_answer(room: &mut [u64], leader: u64, read: Read, i: usize)
@@ -45,16 +44,6 @@ fn put_answers(room: &mut [u64], leader: u64, read: Read, answers: usize)
     for i in 0..answers {
         put_answer(room, leader, read, i);
     }
-}
-
-// Whether the read is kept as the reply leaves it: done, or a conflict.
-fn stays_open(answer: u64) -> bool
-    ensures { λ r. ⌜ r ≡ (eqb answer 0 || eqb answer 12) ⌝ }
-{
-    if answer == 0 {
-        return true;
-    }
-    answer == 12
 }
 
 impl Replica {

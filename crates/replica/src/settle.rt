@@ -1,8 +1,4 @@
 // What was decided for one slot, carried out: the key table's 7 and refresh, the actions, the slot and the scalars.
-ghost use mathlib.Core.Path.{_≡_};
-ghost use mathlib.Core.Bool.{_&&_};
-ghost use Rattle.base.specs.Pick.{pick};
-ghost use Rattle.batch.specs.Keys.{overfull, refresh};
 ghost use Rattle.replica.specs.Record.{settled};
 ghost use Rattle.replica.specs.Step.{Told};
 ghost use Rattle.replica.specs.Acting.{SettleFits};
@@ -10,29 +6,7 @@ use super::Handled;
 use super::Replica;
 use super::Window;
 use actions::say;
-use batch::Batch;
-use batch::KeyTable;
 use decide::Decided;
-
-// 7: the batch is noted and would add more new keys than the table has free.
-pub(crate) fn too_many(keys: KeyTable, noted: bool, batch: Batch) -> bool
-    ensures { λ r. ⌜ r ≡ (noted && overfull keys batch) ⌝ }
-{
-    if noted {
-        return keys.overfull(batch);
-    }
-    false
-}
-
-// The key table with a batch that is noted.
-pub(crate) fn note_if(keys: KeyTable, noted: bool, slot: u64, batch: Batch) -> KeyTable
-    ensures { λ r. ⌜ r ≡ pick noted (refresh slot batch keys) keys ⌝ }
-{
-    if noted {
-        return keys.refresh(slot, batch);
-    }
-    keys
-}
 
 impl Replica {
     // What was decided for the slot at place i of a window.
@@ -53,7 +27,7 @@ impl Replica {
         let s = d.slot;
         let batch = s.batch;
         let old = self.keys;
-        if too_many(old, d.noted, batch) {
+        if old.too_many(d.noted, batch) {
             return self.kept(7);
         }
         let words = d.says;
@@ -63,7 +37,7 @@ impl Replica {
         self.window = w;
         let sc = d.sc;
         self.sc = sc;
-        let table = note_if(old, d.noted, slot, batch);
+        let table = old.note_if(d.noted, slot, batch);
         self.keys = table;
         Handled {
             answer: 0,

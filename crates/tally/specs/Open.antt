@@ -1,13 +1,14 @@
 -- Open reads. 01: "A read has 1 to 8 keys, opens with no acknowledgements and with nothing known per key."
-use mathlib.Core.Bool.{Bool, true, false, not, _||_}
+use mathlib.Core.Bool.{Bool, true, false, not, _&&_, _||_}
 use mathlib.Core.List.{List, []}
 use Prim.Native.Nat.{ℕ, _+_, _-_}
 use lib.Dec.{ltb, leb, eqb}
 use lib.ListN.{getD, set, replicate}
 use Rattle.base.specs.Pick.{pick}
+use Rattle.base.specs.Find.{any}
 use Rattle.base.specs.Scan.{scan}
 use Rattle.batch.specs.Batches.{firstKeys}
-use Rattle.members.specs.Sets.{has, insert, countIn}
+use Rattle.members.specs.Sets.{has, insert, countIn, fitsGroup}
 use Rattle.tally.specs.declared.Tally.{Tally}
 use Rattle.tally.specs.declared.Merged.{Merged}
 use Rattle.tally.specs.declared.Read.{Read}
@@ -61,6 +62,14 @@ closeRead rs i =
 unfoldable pub putRead : Reads → ℕ → Read → Reads
 putRead rs i r = pick (ltb 16 (rs .count) || leb (rs .count) i) rs (record { count = rs .count; reads = set (rs .reads) i r })
 
+-- 1: "a count above its table's size, a member set .. outside the group"
+abbrev pub fitRead : ℕ → Read → Bool
+fitRead group r = leb (r .tally .count) 8 && fitsGroup (r .acks) group
+
+-- the reads in use
+unfoldable pub fitReads : ℕ → Reads → Bool
+fitReads group rs = leb (rs .count) 16 && not (any (λ i. not (fitRead group (getD (rs .reads) i noRead))) 0 (rs .count))
+
 abbrev pub withTally : Read → Tally → Read
 withTally r t = record { id = r .id; acks = r .acks; keys = r .keys; tally = t }
 
@@ -93,3 +102,7 @@ replyTo quorum peer fromLeader reply r =
     pick fromLeader (replaced r reply)
     (pick (has (r .acks) peer) (stays 0 r)
     (counted quorum peer r (merge (r .tally) reply)))
+
+-- the read is kept as the reply leaves it: it is done (0), or a conflict (12): "All but 0 and 12 change nothing"
+abbrev pub staysOpen : ℕ → Bool
+staysOpen answer = eqb answer 0 || eqb answer 12

@@ -1,6 +1,6 @@
--- What the table of open reads promises: a search finds the id asked for, a read is added at the end or taken out, and ids stay distinct.
+-- What the table of open reads promises: a search finds the id asked for, a read is added at the end or taken out, and ids stay distinct; its fit test.
 use mathlib.Core.Path.{_≡_, refl, sym, ap, _∙_}
-use mathlib.Core.Bool.{_||_}
+use mathlib.Core.Bool.{Bool, true, false, not, _||_, and-false}
 use mathlib.Core.List.{List, [], _∷_, List·Memᴰ·head, List·Memᴰ·tail}
 use mathlib.Core.Logic.{⊎-elim}
 use Prim.Native.Nat.{ℕ, _+_, _-_, _≤_, _<_}
@@ -9,14 +9,15 @@ use native.Mathlib.Omega.{arith}
 use lib.ListN.{length, getD, set, length-set, List·getD-map}
 use lib.Seq.{getD-set-same, getD-set-other, map-set-same}
 use lib.Dec.{ltb, leb, eqb}
-use borrow.Author.Tests.{le-ltb, lt-leb, ltb-false, leb-false, eqb-true, eqb-false, not-true, not-false}
-use Rattle.base.specs.Pick.{pick, pick-both, pick-cases, same?, or-false, tests}
+use borrow.Author.Tests.{le-ltb, le-leb, lt-leb, ltb-false, leb-false, eqb-true, eqb-false, not-true, not-false}
+use Rattle.base.specs.Pick.{pick, pick-both, pick-cases, same?, and-right, or-false, tests}
 use Rattle.base.specs.Among.{_∈_}
+use Rattle.base.specs.Find.{twice, any, any-false, search-found, search-more, search-done}
 use Rattle.base.specs.Scan.{scan-high, scan-passed, scan-stopped}
 use Rattle.tally.specs.declared.Read.{Read}
 use Rattle.tally.specs.declared.Reads.{Reads}
 use Rattle.tally.specs.declared.Opened.{Opened}
-use Rattle.tally.specs.Open.{newRead, noRead, otherAt, findRead, openRead, closeRead, putRead}
+use Rattle.tally.specs.Open.{newRead, noRead, otherAt, findRead, openRead, closeRead, putRead, fitRead, fitReads}
 
 abbrev pub readAt : Reads → ℕ → Read
 readAt rs i = getD (rs .reads) i noRead
@@ -212,3 +213,33 @@ module _ (rs : Reads) (at : ℕ) (r : Read) where
 
   pub put-distinct : r .id ≡ idAt rs at → Distinct rs → Distinct (putRead rs at r)
   put-distinct e d i j p q x = d i j (omega (arith, put-count)) (omega (arith, put-count)) (sym (put-ids e i) ∙ (x ∙ put-ids e j))
+
+-- THE FIT TEST
+
+abbrev pub unfitRead : ℕ → Reads → ℕ → Bool
+unfitRead group rs i = not (fitRead group (readAt rs i))
+
+-- by the code's loop, and what the answer says of each read in use
+module _ (group : ℕ) (rs : Reads) where
+  pub reads-many : 16 < rs .count → false ≡ fitReads group rs
+  unfolding fitReads
+  reads-many h = rw (lt-leb (rs .count) 16 h)
+
+  pub reads-found : (i : ℕ) (b : Bool) → i < rs .count → b ≡ fitRead group (readAt rs i) → not b ≡ true → false ≡ fitReads group rs
+  unfolding fitReads
+  reads-found i b l e h =
+      rw (← search-found (unfitRead group rs) i (rs .count) b l (e ∙ twice (fitRead group (readAt rs i))) h, and-false)
+
+  pub reads-more : (i : ℕ) (b : Bool) → any (unfitRead group rs) 0 i ≡ false → b ≡ fitRead group (readAt rs i) → not b ≡ false
+      → any (unfitRead group rs) 0 (i + 1) ≡ false
+  reads-more i b a e h = search-more (unfitRead group rs) i b a (e ∙ twice (fitRead group (readAt rs i))) h
+
+  pub reads-done : (i : ℕ) → rs .count ≤ 16 → any (unfitRead group rs) 0 i ≡ false → i ≡ rs .count → true ≡ fitReads group rs
+  unfolding fitReads
+  reads-done i l a h = rw (le-leb (rs .count) 16 l) (search-done (unfitRead group rs) i (rs .count) a h)
+
+  pub read-fits : (i : ℕ) → fitReads group rs ≡ true → i < rs .count → fitRead group (readAt rs i) ≡ true
+  unfolding fitReads
+  read-fits i e l =
+      not-false _
+      (any-false (unfitRead group rs) 0 (rs .count) i (not-true (any (unfitRead group rs) 0 (rs .count)) (and-right (leb (rs .count) 16) _ e)) (omega arith) l)

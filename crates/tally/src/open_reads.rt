@@ -1,6 +1,6 @@
 // The table of open reads, and one reply to one of them (quorumread.rs, handle_msg_read_query_reply).
 ghost use mathlib.Core.Path.{_≡_};
-ghost use Rattle.tally.specs.Open.{nothingKnown, newRead, nullRead, noReads, findRead, openRead, closeRead, putRead, withTally, withAck, smaller, stays, replaced, weighed, counted, replyTo};
+ghost use Rattle.tally.specs.Open.{nothingKnown, newRead, nullRead, noReads, findRead, openRead, closeRead, putRead, fitRead, fitReads, withTally, withAck, smaller, stays, replaced, weighed, counted, replyTo, staysOpen};
 use crate::Best;
 use crate::KeyBest;
 use crate::Merged;
@@ -134,9 +134,35 @@ impl Reads {
         self.reads[at] = read;
         self
     }
+
+    // Whether every read in use is fit.
+    pub fn is_fit(self, group: u64) -> bool
+        ensures { λ r. ⌜ r ≡ fitReads group self ⌝ }
+    {
+        if 16 < self.count {
+            return false;
+        }
+        for i in 0..self.count {
+            let read = self.reads[i];
+            if !read.is_fit(group) {
+                return false;
+            }
+        }
+        true
+    }
 }
 
 impl Read {
+    // Whether it has at most eight keys, and only members have answered.
+    fn is_fit(self, group: u64) -> bool
+        ensures { λ r. ⌜ r ≡ fitRead group self ⌝ }
+    {
+        if 8 < self.tally.count {
+            return false;
+        }
+        members::within(self.acks, group)
+    }
+
     fn with_tally(mut self, tally: Tally) -> Read
         ensures { λ r. ⌜ r ≡ withTally self tally ⌝ }
     {
@@ -232,4 +258,14 @@ pub fn reply_to(quorum: u64, peer: u64, from_leader: bool, reply: Tally, read: R
     let held = read.tally;
     let merged = merge(held, reply);
     read.acknowledge(quorum, peer, merged)
+}
+
+// Whether the read is kept as the reply leaves it: done, or a conflict.
+pub fn stays_open(answer: u64) -> bool
+    ensures { λ r. ⌜ r ≡ staysOpen answer ⌝ }
+{
+    if answer == 0 {
+        return true;
+    }
+    answer == 12
 }

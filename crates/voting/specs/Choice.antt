@@ -12,8 +12,8 @@ use Rattle.base.specs.Among.{All, all-append}
 use Rattle.slots.specs.declared.Vote.{Vote}
 use Rattle.slots.specs.declared.Slot.{Slot}
 use Rattle.slots.specs.Slots.{newBook, redoneSlot, withState, withLeader, withExternal, committed, executed, preparing}
+use Rattle.decide.specs.declared.Reply.{Reply}
 use Rattle.replica.specs.declared.Replica.{Replica}
-use Rattle.replica.specs.declared.Reply.{Reply}
 use Rattle.replica.specs.declared.Done.{Done}
 use Rattle.replica.specs.declared.Entry.the-variants.{PrepareBal}
 use Rattle.replica.specs.Record.{place}

@@ -13,16 +13,17 @@ use Rattle.members.specs.Ballots.{owns}
 use Rattle.batch.specs.declared.Batch.{Batch}
 use Rattle.batch.specs.Batches.{isBatch, makeBatch, sameList}
 use Rattle.batch.specs.Keys.{placeIn, noteKey, noteKeys, newKeys, overfullIn, overfull}
+use Rattle.tally.specs.Open.{fitReads}
 use Rattle.actions.specs.Actions.{flat, bare}
 use Rattle.slots.specs.Slots.{noVote, fitSlot}
-use Rattle.decide.specs.Scalars.{leads, isPeer}
+use Rattle.decide.specs.declared.Reply.{Reply}
+use Rattle.decide.specs.Scalars.{leads, isPeer, fitScalars}
 use Rattle.decide.specs.Bars.{notAbove, leastMajority, withBar, withFallen}
 use Rattle.decide.specs.Decide.{decideAccept, decideAcceptReply, decideVote, decideCount, decidePromised, decideAccepted, decideOffer}
 use Rattle.replica.specs.declared.Replica.{Replica}
-use Rattle.replica.specs.declared.Reply.{Reply}
 use Rattle.replica.specs.declared.Entry.the-variants.{PrepareBal, AcceptData}
 use Rattle.replica.specs.Record.{kept, newReplica, slotAt, grown, noting, settled, number}
-use Rattle.replica.specs.Fit.{ready, fit, fitScalars, fitSlots, fitReads}
+use Rattle.replica.specs.Fit.{ready, fit, fitSlots}
 use Rattle.replica.specs.Messages.{prepareOn, prepareStep, lastUsed, appended, countedOn, votedOn, repliedOn, replyOn, prepareReplyStep, acceptStep, acceptReplyStep, clean}
 use Rattle.replica.specs.Leadership.{firstOpen, lastOpen, leadOn, stepUp, timeoutStep, redoActs}
 use Rattle.replica.specs.Durability.{preparedDone, movedAccept, acceptedDone, passOn, passStop, committedDone, loggedOn, loggedStep}

@@ -14,10 +14,10 @@ use Rattle.actions.specs.declared.Action.the-variants.{Accept, AcceptData}
 use Rattle.actions.specs.Actions.{Act, act}
 use Rattle.slots.specs.declared.Slot.{Slot}
 use Rattle.slots.specs.Slots.{preparing, accepting, enteredSlot, withState}
+use Rattle.decide.specs.declared.Reply.{Reply}
 use Rattle.decide.specs.Decide.{proposal}
 use Rattle.replica.specs.declared.Window.{Window}
 use Rattle.replica.specs.declared.Replica.{Replica}
-use Rattle.replica.specs.declared.Reply.{Reply}
 use Rattle.replica.specs.declared.Done.{Done}
 use Rattle.replica.specs.Record.{place, number, slotAt}
 use Rattle.replica.specs.Messages.{promise, cleanReply, enterActs}

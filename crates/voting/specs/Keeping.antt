@@ -6,7 +6,7 @@ use lib.Dec.{ltb, leb, eqb}
 use Rattle.base.specs.Pick.{pick-both}
 use Rattle.slots.specs.declared.Slot.{Slot}
 use Rattle.slots.specs.Slots.{withState, withOffset, committed, preparing, enteredSlot, markedSlot, passedSlot, executedSlot, loggedSlot, adoptedSlot}
-use Rattle.replica.specs.declared.Reply.{Reply}
+use Rattle.decide.specs.declared.Reply.{Reply}
 use Rattle.laws.specs.WaysReply.{adoptsVote, heardSlot}
 
 module _ {A : Type 0} (p : Slot → A) where

@@ -7,14 +7,16 @@ use Rattle.base.specs.Scan.{scan}
 use Rattle.members.specs.Sets.{has, insert, count, countIn}
 use Rattle.batch.specs.Batches.{makeBatch}
 use Rattle.batch.specs.Keys.{placeIn, noteKey, noteKeys, newKeys, overfullIn}
+use Rattle.tally.specs.Open.{fitReads}
 use Rattle.slots.specs.declared.Vote.{Vote}
 use Rattle.slots.specs.Slots.{fitSlot}
 use Rattle.decide.specs.Bars.{notAbove, leastMajority, withBar, withFallen}
 use Rattle.decide.specs.Decide.{decideAccept, decideVote, decideCount}
+use Rattle.decide.specs.Scalars.{fitScalars}
 use Rattle.replica.specs.declared.Replica.{Replica}
 use Rattle.replica.specs.declared.Entry.the-variants.{PrepareBal}
 use Rattle.replica.specs.Record.{newReplica, grown, noting, settled}
-use Rattle.replica.specs.Fit.{fit, fitScalars, fitSlots, fitReads}
+use Rattle.replica.specs.Fit.{fit, fitSlots}
 use Rattle.replica.specs.Messages.{appended, countedOn, votedOn, repliedOn, replyOn, prepareReplyStep, acceptStep}
 use Rattle.replica.specs.Leadership.{firstOpen, lastOpen, leadOn, stepUp, timeoutStep}
 use Rattle.replica.specs.Durability.{preparedDone, loggedOn, loggedStep}

@@ -18,14 +18,14 @@ use Rattle.batch.specs.Keys.{overfull}
 use Rattle.slots.specs.declared.Slot.{Slot}
 use Rattle.slots.specs.Slots.{newBook, redoneSlot, preparedSlot, enteredSlot, markedSlot, passedSlot, loggedSlot, committed, executed}
 use Rattle.decide.specs.declared.Scalars.{Scalars}
-use Rattle.decide.specs.Scalars.{leads, isPeer, followed, withBallots, steppedUp}
+use Rattle.decide.specs.declared.Reply.{Reply}
+use Rattle.decide.specs.Scalars.{leads, isPeer, followed, withBallots, steppedUp, mayBe}
 use Rattle.decide.specs.Decide.{decideOffer}
 use Rattle.replica.specs.declared.Window.{Window}
 use Rattle.replica.specs.declared.Replica.{Replica}
 use Rattle.replica.specs.declared.Made.{Made}
-use Rattle.replica.specs.declared.Reply.{Reply}
 use Rattle.replica.specs.declared.Done.{Done}
-use Rattle.replica.specs.Record.{place, slotAt, putSlot, sweep, grown, newReplica, mayBe, fresh, zeroReplica, noSlots}
+use Rattle.replica.specs.Record.{place, slotAt, putSlot, sweep, grown, newReplica, fresh, zeroReplica, noSlots}
 use Rattle.replica.specs.Fit.{fit, ready}
 use Rattle.replica.specs.Messages.{clean, cleanReply, prepareBook}
 use Rattle.replica.specs.Leadership.{firstOpen}

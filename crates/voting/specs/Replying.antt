@@ -8,12 +8,12 @@ use Rattle.base.specs.Gather.{gather}
 use Rattle.actions.specs.Actions.{Act}
 use Rattle.slots.specs.Slots.{enteredSlot}
 use Rattle.decide.specs.declared.Scalars.{Scalars}
+use Rattle.decide.specs.declared.Reply.{Reply}
 use Rattle.decide.specs.Scalars.{withPrepared}
 use Rattle.decide.specs.Bars.{withFallen}
 use Rattle.decide.specs.Decide.{awaitsPrepare}
 use Rattle.replica.specs.declared.Window.{Window}
 use Rattle.replica.specs.declared.Replica.{Replica}
-use Rattle.replica.specs.declared.Reply.{Reply}
 use Rattle.replica.specs.Record.{Outcome, place, number, slotAt, sweep}
 use Rattle.replica.specs.Messages.{appendActs, enterActs, replyOn, cleanReply, prepareReplyStep}
 use Rattle.laws.specs.Leaves.{done}

@@ -18,11 +18,11 @@ use Rattle.slots.specs.declared.Vote.{Vote}
 use Rattle.slots.specs.declared.Slot.{Slot}
 use Rattle.slots.specs.Slots.{noVote, newBook, redoneSlot, preparedSlot, enteredSlot, markedSlot, passedSlot, acceptedSlot, loggedSlot, withState, withLeader, withExternal, committed, executed, preparing}
 use Rattle.decide.specs.declared.Scalars.{Scalars}
+use Rattle.decide.specs.declared.Reply.{Reply}
 use Rattle.decide.specs.Scalars.{stepsDown, followed}
 use Rattle.decide.specs.Decide.{decideOffer}
 use Rattle.replica.specs.declared.Window.{Window}
 use Rattle.replica.specs.declared.Replica.{Replica}
-use Rattle.replica.specs.declared.Reply.{Reply}
 use Rattle.replica.specs.declared.Done.{Done}
 use Rattle.replica.specs.Record.{place, slotAt, putSlot, grown}
 use Rattle.replica.specs.Messages.{clean, cleanReply, prepareBook}

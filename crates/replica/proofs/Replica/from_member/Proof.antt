@@ -1,5 +1,5 @@
 use native.Mathlib.Omega.{arith}
-use Rattle.replica.specs.FitLaws.{refuted, granted}
+use Rattle.base.specs.Pick.{refuted, granted}
 use Rattle.replica.specs.AdmitLaws.{member-unready, member-none, member-some}
 use borrow.Author.Needs.{needs}
 use Rattle.replica.proofs.Replica.from_member.Statement.{statement}

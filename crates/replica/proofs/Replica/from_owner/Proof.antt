@@ -1,5 +1,5 @@
 use mathlib.Core.Path.{sym, _∙_}
-use Rattle.replica.specs.FitLaws.{refuted, granted}
+use Rattle.base.specs.Pick.{refuted, granted}
 use Rattle.replica.specs.AdmitLaws.{owner-first, owner-none, owner-some}
 use borrow.Author.Needs.{needs}
 use Rattle.replica.proofs.Replica.from_owner.Statement.{statement}

@@ -1,4 +1,4 @@
-use Rattle.replica.specs.FitLaws.{refuted, granted}
+use Rattle.base.specs.Pick.{refuted, granted}
 use Rattle.replica.specs.AdmitLaws.{peer-unready, peer-none, peer-some}
 use borrow.Author.Needs.{needs}
 use Rattle.replica.proofs.Replica.from_peer.Statement.{statement}

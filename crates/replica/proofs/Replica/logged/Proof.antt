@@ -2,8 +2,8 @@ use mathlib.Core.Path.{_≡_}
 use mathlib.Core.Bool.{true}
 use native.Mathlib.Omega.{arith}
 use lib.ListN.{length}
+use Rattle.base.specs.Pick.{refuted, granted}
 use Rattle.replica.specs.Fit.{ready}
-use Rattle.replica.specs.FitLaws.{refuted, granted}
 use Rattle.replica.specs.AdmitLaws.{Ready, ready-facts}
 use Rattle.replica.specs.ActingLaws.{refuse}
 use Rattle.replica.specs.CompletionLaws.{logged-unready, logged-below, logged-past, logged-short, logged-fits, logged-done, logged-refused}

@@ -1,4 +1,5 @@
-use Rattle.replica.specs.FitLaws.{refuted, granted, new-refused, new-made}
+use Rattle.base.specs.Pick.{refuted, granted}
+use Rattle.replica.specs.FitLaws.{new-refused, new-made}
 use borrow.Author.Needs.{needs}
 use Rattle.replica.proofs.Replica.new.Statement.{statement}
 use Rattle.replica.proofs.Replica.new.Tie as tie

@@ -3,8 +3,8 @@ use mathlib.Core.Bool.{true}
 use native.Mathlib.Omega.{arith}
 use denote.Ref.{now}
 use lib.ListN.{length}
+use Rattle.base.specs.Pick.{refuted, granted}
 use Rattle.replica.specs.Fit.{ready}
-use Rattle.replica.specs.FitLaws.{refuted, granted}
 use Rattle.batch.specs.declared.Made.{Made}
 use Rattle.batch.specs.Batches.{isBatch}
 use Rattle.replica.specs.AdmitLaws.{Ready, ready-facts}

@@ -1,4 +1,4 @@
-use Rattle.replica.specs.FitLaws.{refuted, granted}
+use Rattle.base.specs.Pick.{refuted, granted}
 use Rattle.replica.specs.ActingLaws.{refuse}
 use mathlib.Core.Path.{refl}
 use Rattle.replica.specs.ReadCallLaws.{open-unready, open-ready}

@@ -58,15 +58,15 @@ returns-3 c =
     refuse 0 (a .self) (c .kept3 .ensures)
     (opened e ∙ reply-below (a .self) (length (now (a .room))) (a .peer) (a .m) (v .before .make .ensures) (v .bad-vote .ensures) (g .if2 .left) (c .before .if3 .taken))
 
-clean-reply-requires : tie.Need-clean-reply-requires
-clean-reply-requires c κs = search needs
+with-voted-requires : tie.Need-with-voted-requires
+with-voted-requires c κs = search needs
 
 reply-on-requires : tie.Need-reply-on-requires
 reply-on-requires c κs =
     let k = c .before in
     let f = k .before .before .before .before .before .before .before .before .before .before .before .before in
     let a = f .before .before .args in
-    reply-fits (a .self) (length (now (a .room))) (a .peer) (a .m) (sym (f .from-peer .ensures) ∙ k .before .before .before .before .before .before .before .before .before .before .before .if1 .left) (k .clean-reply .ensures)
+    reply-fits (a .self) (length (now (a .room))) (a .peer) (a .m) (sym (f .from-peer .ensures) ∙ k .before .before .before .before .before .before .before .before .before .before .before .if1 .left) (k .with-voted .ensures)
     (k .before .before .if3 .left)
 
 same-length : tie.Need-same-length
@@ -83,7 +83,7 @@ returns-4 c =
     let a = e .before .before .before .args in
     told
     (opened e
-    ∙ reply-goes (a .self) (length (now (a .room))) (a .peer) (a .m) (v .before .make .ensures) (v .bad-vote .ensures) (g .if2 .left) (k .clean-reply .ensures) (b .if3 .left))
+    ∙ reply-goes (a .self) (length (now (a .room))) (a .peer) (a .m) (v .before .make .ensures) (v .bad-vote .ensures) (g .if2 .left) (k .with-voted .ensures) (b .if3 .left))
     (t .reply-on .ensures)
 
 pub prepare-reply-spec : {M : Type 1} → statement M
@@ -99,7 +99,7 @@ prepare-reply-spec =
     returns-2
     kept-requires-3
     returns-3
-    clean-reply-requires
+    with-voted-requires
     reply-on-requires
     same-length
     returns-4)

@@ -2,11 +2,12 @@ use mathlib.Core.Path.{_≡_}
 use mathlib.Core.Bool.{true}
 use native.Mathlib.Omega.{arith}
 use borrow.Author.Tests.{not-true, not-false}
+use Rattle.base.specs.Pick.{refuted, granted}
 use Rattle.decide.specs.Scalars.{leads}
+use Rattle.decide.specs.ReplyWays.{InLog, range-facts}
 use Rattle.replica.specs.Messages.{inRange}
-use Rattle.replica.specs.FitLaws.{refuted, granted}
 use Rattle.replica.specs.ActingLaws.{refuse, told}
-use Rattle.replica.specs.ReplyLaws.{InLog, range-facts, on-other, on-follower, on-outside, on-bookless, on-past, on-at}
+use Rattle.replica.specs.ReplyLaws.{on-other, on-follower, on-outside, on-bookless, on-past, on-at}
 use borrow.Author.Needs.{needs}
 use Rattle.replica.proofs.Replica.reply_on.Statement.{statement}
 use Rattle.replica.proofs.Replica.reply_on.Tie as tie
@@ -23,7 +24,7 @@ led : (c : tie.Else2) → leads (entry c .args .self .sc) ≡ true
 led c = granted (c .before .leads .ensures) (c .if2 .left)
 
 within : (c : tie.Else3) → inRange (entry (leading c) .args .self) (entry (leading c) .args .m) ≡ true
-within c = granted (c .before .in-range .ensures) (c .if3 .left)
+within c = granted (c .before .is-in-log .ensures) (c .if3 .left)
 
 ranged : (c : tie.Else3) → InLog (entry (leading c) .args .self .sc .start) (entry (leading c) .args .self .window .len) (entry (leading c) .args .m)
 ranged c = range-facts _ _ _ (within c)
@@ -49,8 +50,8 @@ returns-2 c =
     let a = e .before .before .before .before .before .args in
     refuse 4 (a .self) (c .kept2 .ensures) (on-follower (a .self) (a .peer) (a .m) (e .if1 .left) (refuted (l .leads .ensures) (c .before .if2 .taken)))
 
-in-range-requires : tie.Need-in-range-requires
-in-range-requires c κs = search needs
+is-in-log-requires : tie.Need-is-in-log-requires
+is-in-log-requires c κs = search needs
 
 kept-requires-3 : tie.Need-kept-requires-3
 kept-requires-3 c κs = search needs
@@ -61,7 +62,7 @@ returns-3 c =
     let l = g .before .before in
     let e = l .before .before in
     let a = e .before .before .before .before .before .args in
-    refuse 6 (a .self) (c .kept3 .ensures) (on-outside (a .self) (a .peer) (a .m) (e .if1 .left) (led l) (refuted (g .in-range .ensures) (c .before .if3 .taken)))
+    refuse 6 (a .self) (c .kept3 .ensures) (on-outside (a .self) (a .peer) (a .m) (e .if1 .left) (led l) (refuted (g .is-in-log .ensures) (c .before .if3 .taken)))
 
 sub-j : tie.Need-sub-j
 sub-j c = ranged (c .before .before) .from
@@ -129,7 +130,7 @@ reply-on-spec =
     leads-requires
     kept-requires-2
     returns-2
-    in-range-requires
+    is-in-log-requires
     kept-requires-3
     returns-3
     sub-j

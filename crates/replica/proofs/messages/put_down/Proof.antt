@@ -1,4 +1,4 @@
-use Rattle.replica.specs.FitLaws.{refuted, granted}
+use Rattle.base.specs.Pick.{refuted, granted}
 use Rattle.replica.specs.MessageLaws.{down-none, down-one}
 use borrow.Author.Needs.{needs}
 use Rattle.replica.proofs.messages.put_down.Statement.{statement}
