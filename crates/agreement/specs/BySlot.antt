@@ -9,7 +9,7 @@ use borrow.Author.Tests.{le-ltb}
 use Rattle.base.specs.Pick.{pick, decide, tests}
 use Rattle.slots.specs.declared.Slot.{Slot}
 use Rattle.slots.specs.Slots.{nullSlot}
-use Rattle.replica.specs.declared.Window.{Window}
+use Rattle.window.specs.declared.Window.{Window}
 use Rattle.laws.specs.ByPlace.{atPlace}
 
 -- slot s of a log that begins at `start`: null below it and past its end

@@ -16,7 +16,7 @@ use Rattle.actions.specs.declared.Proposal.{Proposal}
 use Rattle.actions.specs.declared.Action.the-variants.{AcceptData}
 use Rattle.actions.specs.Actions.{Act}
 use Rattle.slots.specs.Slots.{nullSlot, committed}
-use Rattle.replica.specs.declared.Window.{Window}
+use Rattle.window.specs.declared.Window.{Window}
 use Rattle.replica.specs.declared.Replica.{Replica}
 use Rattle.replica.specs.Record.{Outcome, logEnd}
 use Rattle.replica.specs.Step.{Call, step}

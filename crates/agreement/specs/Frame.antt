@@ -14,7 +14,7 @@ use Rattle.actions.specs.Actions.{Act}
 use Rattle.slots.specs.declared.Slot.{Slot}
 use Rattle.decide.specs.declared.Scalars.{Scalars}
 use Rattle.decide.specs.Scalars.{leads}
-use Rattle.replica.specs.declared.Window.{Window}
+use Rattle.window.specs.declared.Window.{Window}
 use Rattle.replica.specs.Messages.{clean}
 use Rattle.replica.specs.Step.{Call, callAccept}
 use Rattle.agreement.specs.BySlot.{numbered}

@@ -14,9 +14,10 @@ use Rattle.slots.specs.declared.Slot.{Slot}
 use Rattle.slots.specs.declared.Vote.{Vote}
 use Rattle.decide.specs.declared.Scalars.{Scalars}
 use Rattle.decide.specs.Scalars.{leads}
-use Rattle.replica.specs.declared.Window.{Window}
+use Rattle.window.specs.declared.Window.{Window}
+use Rattle.window.specs.Window.{grown}
 use Rattle.replica.specs.declared.Replica.{Replica}
-use Rattle.replica.specs.Record.{Outcome, kept as keptAs, grown}
+use Rattle.replica.specs.Record.{Outcome, kept as keptAs}
 use Rattle.replica.specs.Step.{Call}
 use Rattle.laws.specs.Windows.{grown-long, grown-most}
 use Rattle.laws.specs.ByPlace.{atPlace, grown-at}

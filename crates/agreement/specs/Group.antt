@@ -19,9 +19,10 @@ use Rattle.actions.specs.Actions.{Act}
 use Rattle.slots.specs.declared.Slot.{Slot}
 use Rattle.slots.specs.Slots.{committed}
 use Rattle.decide.specs.Scalars.{mayBe}
+use Rattle.window.specs.Window.{noSlots}
 use Rattle.replica.specs.declared.Replica.{Replica}
 use Rattle.replica.specs.declared.Made.{Made}
-use Rattle.replica.specs.Record.{Outcome, newReplica, fresh, noSlots, logEnd}
+use Rattle.replica.specs.Record.{Outcome, newReplica, fresh, logEnd}
 use Rattle.replica.specs.Messages.{clean}
 use Rattle.replica.specs.Step.{Call, callPrepare, callPrepareReply, callAccept, callAcceptReply, callCommitNotice, callTimeout, callLogged, callOffer, callExecuted, callOpenRead, callReadReply, step, received}
 use Rattle.laws.specs.ByPlace.{at-past}

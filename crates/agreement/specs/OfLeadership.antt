@@ -19,10 +19,12 @@ use Rattle.slots.specs.declared.Slot.{Slot}
 use Rattle.slots.specs.Slots.{accepting, committed, executed, newBook, redoneSlot, markedSlot, withExternal}
 use Rattle.decide.specs.declared.Scalars.{Scalars}
 use Rattle.decide.specs.Scalars.{steppedUp}
-use Rattle.replica.specs.declared.Window.{Window}
+use Rattle.window.specs.declared.Window.{Window}
+use Rattle.window.specs.Window.{slotAt, sweep, firstOpen, mayMark, markStop}
+use Rattle.window.specs.Acts.{redoActs, markActs}
 use Rattle.replica.specs.declared.Replica.{Replica}
-use Rattle.replica.specs.Record.{place, number, slotAt, sweep}
-use Rattle.replica.specs.Leadership.{firstOpen, redoActs, timeoutStep, mayMark, markActs, markStop, commitNoticeStep}
+use Rattle.replica.specs.Record.{place, number}
+use Rattle.replica.specs.Leadership.{timeoutStep, commitNoticeStep}
 use Rattle.replica.specs.Step.{Call}
 use Rattle.laws.specs.Windows.{grown-has, sweep-long}
 use Rattle.laws.specs.ByPlace.{atPlace, at-here, at-present, sweep-cases, sweep-at}

@@ -22,10 +22,12 @@ use Rattle.slots.specs.declared.Slot.{Slot}
 use Rattle.slots.specs.Slots.{preparedSlot, acceptedSlot, acknowledgedSlot, committedSlot}
 use Rattle.decide.specs.declared.Scalars.{Scalars}
 use Rattle.decide.specs.Scalars.{leads, followed, stepsDown}
-use Rattle.replica.specs.declared.Window.{Window}
+use Rattle.window.specs.declared.Window.{Window}
+use Rattle.window.specs.Window.{slotAt, putSlot, sweep}
+use Rattle.window.specs.Acts.{promise}
 use Rattle.replica.specs.declared.Replica.{Replica}
-use Rattle.replica.specs.Record.{place, number, slotAt, putSlot, sweep}
-use Rattle.replica.specs.Messages.{clean, promise, downActs, prepareTop, prepareBook, prepareStep, acceptStep, acceptReplyStep}
+use Rattle.replica.specs.Record.{place, number}
+use Rattle.replica.specs.Messages.{clean, downActs, prepareTop, prepareBook, prepareStep, acceptStep, acceptReplyStep}
 use Rattle.replica.specs.Step.{Call, callAccept}
 use Rattle.laws.specs.OfScalars.{followed-fixed, followed-seen}
 use Rattle.laws.specs.OfDecide.{accepts}

@@ -20,10 +20,12 @@ use Rattle.decide.specs.declared.PeerBars.{PeerBars}
 use Rattle.decide.specs.declared.Reply.{Reply}
 use Rattle.decide.specs.Scalars.{leads, withPeerMax, withPrepared}
 use Rattle.decide.specs.Bars.{withFallen}
-use Rattle.replica.specs.declared.Window.{Window}
+use Rattle.window.specs.declared.Window.{Window}
+use Rattle.window.specs.Window.{slotAt, putSlot, sweep}
+use Rattle.window.specs.Acts.{promise, enterActs}
 use Rattle.replica.specs.declared.Replica.{Replica}
-use Rattle.replica.specs.Record.{place, number, slotAt, putSlot, sweep}
-use Rattle.replica.specs.Messages.{promise, appended, appendActs, enterActs, replyOn, cleanReply, prepareReplyStep}
+use Rattle.replica.specs.Record.{place, number}
+use Rattle.replica.specs.Messages.{appended, appendActs, replyOn, cleanReply, prepareReplyStep}
 use Rattle.replica.specs.Step.{Call}
 use Rattle.laws.specs.OfScalars.{fallen-ways}
 use Rattle.laws.specs.Windows.{put-long, sweep-long, appendedAs, appended-long, appended-low, appended-has, appended-most}

@@ -24,12 +24,14 @@ use Rattle.decide.specs.declared.Scalars.{Scalars}
 use Rattle.decide.specs.Scalars.{leads, urgent, withOffset}
 use Rattle.decide.specs.Decide.{proposal, sentVote, decideOffer}
 use Rattle.decide.specs.PrepareReply.{ownReply}
-use Rattle.replica.specs.declared.Window.{Window}
+use Rattle.window.specs.declared.Window.{Window}
+use Rattle.window.specs.Window.{slotAt, putSlot}
+use Rattle.window.specs.Acts.{passActs}
 use Rattle.replica.specs.declared.Replica.{Replica}
 use Rattle.replica.specs.declared.Done.{Done}
-use Rattle.replica.specs.Record.{Outcome, place, number, logEnd, slotAt, putSlot}
+use Rattle.replica.specs.Record.{Outcome, place, number, logEnd}
 use Rattle.replica.specs.Messages.{clean, replyOn}
-use Rattle.replica.specs.Durability.{movedAccept, passActs, passStop, loggedOn, loggedStep}
+use Rattle.replica.specs.Durability.{movedAccept, passStop, loggedOn, loggedStep}
 use Rattle.replica.specs.Quorumread.{openReadStep, readAct, readReplyStep}
 use Rattle.replica.specs.Added.{offerStep, movedExec, executedStep}
 use Rattle.replica.specs.Step.{Call}

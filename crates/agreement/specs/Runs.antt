@@ -22,12 +22,13 @@ use Rattle.slots.specs.Slots.{fitSlot}
 use Rattle.decide.specs.Bars.{notAbove, leastMajority, withBar, withFallen}
 use Rattle.decide.specs.Decide.{decideAccept, decideAcceptReply, decideVote, decideCount, decidePromised, decideAccepted, decideOffer}
 use Rattle.decide.specs.Scalars.{fitScalars}
+use Rattle.window.specs.Window.{grown, fitSlots, lastUsed, firstOpen, lastOpen, markStop}
 use Rattle.replica.specs.declared.Entry.{Entry}
 use Rattle.replica.specs.declared.Entry.the-variants.{PrepareBal, AcceptData, CommitSlot}
-use Rattle.replica.specs.Record.{newReplica, grown, noting, settled}
-use Rattle.replica.specs.Fit.{fit, fitSlots}
-use Rattle.replica.specs.Messages.{prepareOn, prepareStep, lastUsed, appended, countedOn, votedOn, repliedOn, replyOn, prepareReplyStep, acceptStep, acceptReplyStep}
-use Rattle.replica.specs.Leadership.{firstOpen, lastOpen, leadOn, stepUp, timeoutStep, markOn, markStop, commitNoticeStep}
+use Rattle.replica.specs.Record.{newReplica, noting, settled}
+use Rattle.replica.specs.Fit.{fit}
+use Rattle.replica.specs.Messages.{prepareOn, prepareStep, appended, countedOn, votedOn, repliedOn, replyOn, prepareReplyStep, acceptStep, acceptReplyStep}
+use Rattle.replica.specs.Leadership.{leadOn, stepUp, timeoutStep, markOn, commitNoticeStep}
 use Rattle.replica.specs.Durability.{preparedDone, movedAccept, acceptedDone, passOn, passStop, committedDone, loggedOn, loggedStep}
 use Rattle.replica.specs.Quorumread.{openReadStep, repliedStep, readReplyStep}
 use Rattle.replica.specs.Added.{offerStep, movedExec, executedStep}

@@ -13,9 +13,9 @@ use Rattle.base.specs.Pick.{pick, pick-cases, decide, same?, tests}
 use Rattle.base.specs.Over.{over}
 use Rattle.slots.specs.declared.Slot.{Slot}
 use Rattle.slots.specs.Slots.{nullSlot, noSlot}
-use Rattle.replica.specs.declared.Window.{Window}
+use Rattle.window.specs.declared.Window.{Window}
+use Rattle.window.specs.Window.{slotAt, putSlot, grown, sweep}
 use Rattle.replica.specs.declared.Replica.{Replica}
-use Rattle.replica.specs.Record.{slotAt, putSlot, grown, sweep}
 use Rattle.replica.specs.Messages.{appended}
 use Rattle.laws.specs.Windows.{size, put-here, put-other, grown-low, grown-has, grown-most, grown-old, grown-new, sweep-in, sweep-before, sweep-after, sweep-each, appendedAs, appended-low, appended-has, appended-most, appended-old, appended-new}
 

@@ -21,13 +21,14 @@ use Rattle.slots.specs.Slots.{enteredSlot}
 use Rattle.decide.specs.declared.Scalars.{Scalars}
 use Rattle.decide.specs.declared.Reply.{Reply}
 use Rattle.decide.specs.Scalars.{leads, urgent, stepsDown}
-use Rattle.replica.specs.declared.Window.{Window}
+use Rattle.window.specs.declared.Window.{Window}
+use Rattle.window.specs.Window.{slotAt, firstOpen, mayMark, markStop}
+use Rattle.window.specs.Acts.{promise, enterActs, redoActs, markActs, passActs}
 use Rattle.replica.specs.declared.Replica.{Replica}
 use Rattle.replica.specs.declared.Done.{Done}
-use Rattle.replica.specs.Record.{Outcome, withWindow, place, number, logEnd, slotAt}
-use Rattle.replica.specs.Messages.{promise, downActs, appendActs, enterActs, replyOn}
-use Rattle.replica.specs.Leadership.{firstOpen, redoActs, mayMark, markActs, markStop}
-use Rattle.replica.specs.Durability.{movedAccept, passActs, noticeActs, passStop, loggedOn}
+use Rattle.replica.specs.Record.{Outcome, withWindow, place, number, logEnd}
+use Rattle.replica.specs.Messages.{downActs, appendActs, replyOn}
+use Rattle.replica.specs.Durability.{movedAccept, noticeActs, passStop, loggedOn}
 use Rattle.laws.specs.OfBase.{length-gather-two}
 use Rattle.laws.specs.OfScalars.{Fixed, fixed-same, fixed-then, fallen-fixed}
 use Rattle.laws.specs.OfFit.{FitNumbers, fit-facts}

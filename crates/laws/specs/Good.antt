@@ -13,9 +13,10 @@ use Rattle.tally.specs.declared.Read.{Read}
 use Rattle.tally.specs.declared.Reads.{Reads}
 use Rattle.tally.specs.Open.{noRead, noReads, fitRead}
 use Rattle.slots.specs.declared.Slot.{Slot}
-use Rattle.replica.specs.declared.Window.{Window}
+use Rattle.window.specs.declared.Window.{Window}
+use Rattle.window.specs.Window.{slotAt, noSlots}
 use Rattle.replica.specs.declared.Replica.{Replica}
-use Rattle.replica.specs.Record.{slotAt, noSlots, fresh, zeroReplica}
+use Rattle.replica.specs.Record.{fresh, zeroReplica}
 use Rattle.laws.specs.OfScalars.{Fixed}
 use Rattle.laws.specs.OfFit.{FitNumbers, Fits}
 use Rattle.laws.specs.Windows.{size}

@@ -10,9 +10,10 @@ use Rattle.base.specs.Scan.{scan, scan-low, scan-high, scan-below}
 use Rattle.actions.specs.Actions.{Act}
 use Rattle.slots.specs.Slots.{passedSlot, acknowledgedSlot}
 use Rattle.decide.specs.PrepareReply.{ownReply}
+use Rattle.window.specs.Window.{slotAt}
 use Rattle.replica.specs.declared.Replica.{Replica}
 use Rattle.replica.specs.declared.Done.{Done}
-use Rattle.replica.specs.Record.{Outcome, place, number, slotAt}
+use Rattle.replica.specs.Record.{Outcome, place, number}
 use Rattle.replica.specs.Messages.{orKept}
 use Rattle.replica.specs.Durability.{movedAccept, passStop, loggedOn, loggedStep}
 use Rattle.replica.specs.Step.{Call, callPrepare, callPrepareReply, callAccept, callAcceptReply, callCommitNotice, callTimeout, callLogged, callOffer, callExecuted, callOpenRead, callReadReply, step}

@@ -16,11 +16,12 @@ use Rattle.slots.specs.declared.Slot.{Slot}
 use Rattle.slots.specs.Slots.{newBook, preparedSlot, redoneSlot, enteredSlot, markedSlot, executedSlot, acknowledgedSlot}
 use Rattle.decide.specs.declared.Reply.{Reply}
 use Rattle.decide.specs.Decide.{decideOffer}
-use Rattle.replica.specs.declared.Window.{Window}
+use Rattle.window.specs.declared.Window.{Window}
+use Rattle.window.specs.Window.{slotAt, putSlot, firstOpen}
 use Rattle.replica.specs.declared.Replica.{Replica}
-use Rattle.replica.specs.Record.{Outcome, place, number, logEnd, slotAt, putSlot}
+use Rattle.replica.specs.Record.{Outcome, place, number, logEnd}
 use Rattle.replica.specs.Messages.{clean, prepareBook, prepareStep, replyOn, cleanReply, prepareReplyStep, acceptStep, acceptReplyStep}
-use Rattle.replica.specs.Leadership.{firstOpen, timeoutStep, commitNoticeStep}
+use Rattle.replica.specs.Leadership.{timeoutStep, commitNoticeStep}
 use Rattle.replica.specs.Quorumread.{openReadStep, readReplyStep}
 use Rattle.replica.specs.Added.{movedExec, offerStep, executedStep}
 use Rattle.laws.specs.OfScalars.{fixed-same, fixed-then, followed-fixed, fallen-fixed}

@@ -10,12 +10,13 @@ use Rattle.slots.specs.Slots.{noVote, fitSlot}
 use Rattle.decide.specs.Bars.{notAbove, leastMajority, withBar, withFallen}
 use Rattle.decide.specs.Decide.{decideVote, decideCount}
 use Rattle.decide.specs.Scalars.{fitScalars}
+use Rattle.window.specs.Window.{grown, fitSlots, firstOpen, lastOpen}
 use Rattle.replica.specs.declared.Replica.{Replica}
 use Rattle.replica.specs.declared.Entry.the-variants.{PrepareBal}
-use Rattle.replica.specs.Record.{Outcome, newReplica, grown, noting}
-use Rattle.replica.specs.Fit.{fit, fitSlots}
+use Rattle.replica.specs.Record.{Outcome, newReplica, noting}
+use Rattle.replica.specs.Fit.{fit}
 use Rattle.replica.specs.Messages.{appended, countedOn, votedOn, repliedOn, replyOn, prepareReplyStep}
-use Rattle.replica.specs.Leadership.{firstOpen, lastOpen, leadOn, stepUp, timeoutStep}
+use Rattle.replica.specs.Leadership.{leadOn, stepUp, timeoutStep}
 use Rattle.replica.specs.Durability.{preparedDone, loggedOn, loggedStep}
 use Rattle.replica.specs.Step.{callTimeout, callLogged, callPrepareReply, step}
 

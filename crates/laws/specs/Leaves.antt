@@ -15,9 +15,10 @@ use Rattle.slots.specs.declared.Slot.{Slot}
 use Rattle.slots.specs.Slots.{noSlot}
 use Rattle.decide.specs.declared.Decided.{Decided}
 use Rattle.decide.specs.Decide.{silent}
-use Rattle.replica.specs.declared.Window.{Window}
+use Rattle.window.specs.declared.Window.{Window}
+use Rattle.window.specs.Window.{slotAt, putSlot}
 use Rattle.replica.specs.declared.Replica.{Replica}
-use Rattle.replica.specs.Record.{Outcome, kept, noting, settled, withWindow, slotAt, putSlot}
+use Rattle.replica.specs.Record.{Outcome, kept, noting, settled, withWindow}
 use Rattle.replica.specs.Messages.{orKept}
 
 -- a call that acts answers 0

@@ -16,10 +16,11 @@ use Rattle.slots.specs.Slots.{fitSlot}
 use Rattle.slots.specs.Laws.{Fit as FitSlot, fit-parts, fit-made}
 use Rattle.decide.specs.declared.Scalars.{Scalars}
 use Rattle.decide.specs.Scalars.{nobody, mayBe, fitScalars}
-use Rattle.replica.specs.declared.Window.{Window}
+use Rattle.window.specs.declared.Window.{Window}
+use Rattle.window.specs.Window.{slotAt, fitSlots}
 use Rattle.replica.specs.declared.Replica.{Replica}
-use Rattle.replica.specs.Record.{slotAt, fresh}
-use Rattle.replica.specs.Fit.{fitSlots, fit}
+use Rattle.replica.specs.Record.{fresh}
+use Rattle.replica.specs.Fit.{fit}
 use Rattle.laws.specs.OfBase.{any-nowhere}
 
 -- no leader, or one of the group

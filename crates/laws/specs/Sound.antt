@@ -17,12 +17,14 @@ use Rattle.actions.specs.Actions.{Act, bare}
 use Rattle.slots.specs.Slots.{preparedSlot, newBook, redoneSlot, markedSlot, passedSlot}
 use Rattle.decide.specs.declared.Reply.{Reply}
 use Rattle.decide.specs.Decide.{decideOffer}
-use Rattle.replica.specs.declared.Window.{Window}
+use Rattle.window.specs.declared.Window.{Window}
+use Rattle.window.specs.Window.{slotAt, firstOpen}
+use Rattle.window.specs.Acts.{markActs}
 use Rattle.replica.specs.declared.Replica.{Replica}
 use Rattle.replica.specs.declared.Done.{Done}
-use Rattle.replica.specs.Record.{Outcome, place, number, slotAt}
+use Rattle.replica.specs.Record.{Outcome, place, number}
 use Rattle.replica.specs.Messages.{prepareBook, prepareStep, orKept, cleanReply, prepareReplyStep, acceptStep, acceptReplyStep}
-use Rattle.replica.specs.Leadership.{firstOpen, markActs, timeoutStep, commitNoticeStep}
+use Rattle.replica.specs.Leadership.{timeoutStep, commitNoticeStep}
 use Rattle.replica.specs.Durability.{movedAccept, passStop, loggedStep}
 use Rattle.replica.specs.Quorumread.{readAct, openReadStep, readReplyStep}
 use Rattle.replica.specs.Added.{movedExec, offerStep, executedStep}

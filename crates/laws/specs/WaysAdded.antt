@@ -26,9 +26,10 @@ use Rattle.slots.specs.Slots.{executedSlot}
 use Rattle.decide.specs.declared.Decided.{Decided}
 use Rattle.decide.specs.Scalars.{isMember, quorum}
 use Rattle.decide.specs.Decide.{mayOffer, decideOffer}
-use Rattle.replica.specs.declared.Window.{Window}
+use Rattle.window.specs.declared.Window.{Window}
+use Rattle.window.specs.Window.{slotAt, putSlot, grown}
 use Rattle.replica.specs.declared.Replica.{Replica}
-use Rattle.replica.specs.Record.{Outcome, settled, place, logEnd, slotAt, putSlot, grown}
+use Rattle.replica.specs.Record.{Outcome, settled, place, logEnd}
 use Rattle.replica.specs.Fit.{fit, ready}
 use Rattle.replica.specs.Messages.{clean}
 use Rattle.replica.specs.Added.{offerStep, movedExec, executedStep}

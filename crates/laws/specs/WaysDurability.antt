@@ -16,15 +16,17 @@ use Rattle.decide.specs.declared.Scalars.{Scalars}
 use Rattle.decide.specs.declared.Decided.{Decided}
 use Rattle.decide.specs.Scalars.{leads, quorum, withBars}
 use Rattle.decide.specs.PrepareReply.{ownReply}
-use Rattle.replica.specs.declared.Window.{Window}
+use Rattle.window.specs.declared.Window.{Window}
+use Rattle.window.specs.Window.{slotAt, putSlot, sweep}
+use Rattle.window.specs.Acts.{passActs}
 use Rattle.replica.specs.declared.Replica.{Replica}
 use Rattle.replica.specs.declared.Entry.{Entry}
 use Rattle.replica.specs.declared.Entry.the-variants.{PrepareBal, AcceptData, CommitSlot}
 use Rattle.replica.specs.declared.Done.{Done}
-use Rattle.replica.specs.Record.{Outcome, kept, noting, settled, withWindow, place, number, logEnd, slotAt, putSlot, sweep}
+use Rattle.replica.specs.Record.{Outcome, kept, noting, settled, withWindow, place, number, logEnd}
 use Rattle.replica.specs.Fit.{fit, ready}
 use Rattle.replica.specs.Messages.{orKept, replyOn}
-use Rattle.replica.specs.Durability.{entryNumber, preparedDone, movedAccept, thenMoved, acceptedDone, passActs, noticeActs, passOn, passStop, committedDone, doneOn, loggedOn, loggedStep}
+use Rattle.replica.specs.Durability.{entryNumber, preparedDone, movedAccept, thenMoved, acceptedDone, noticeActs, passOn, passStop, committedDone, doneOn, loggedOn, loggedStep}
 use Rattle.laws.specs.Leaves.{done, put-back, settled-silent}
 use Rattle.laws.specs.OfDecide.{commits, promises, reports, Acknowledges, decidePromised-ways, decideAccepted-ways}
 use Rattle.laws.specs.WaysMessages.{KeepsFor, ready-fit}

@@ -17,11 +17,13 @@ use Rattle.actions.specs.Actions.{bare}
 use Rattle.slots.specs.Slots.{newBook, redoneSlot, markedSlot}
 use Rattle.decide.specs.Scalars.{isMember, isPeer, steppedUp, ignoresTimeout}
 use Rattle.decide.specs.Bars.{unknownBars}
-use Rattle.replica.specs.declared.Window.{Window}
+use Rattle.window.specs.declared.Window.{Window}
+use Rattle.window.specs.Window.{slotAt, grown, sweep, firstOpen, lastOpen, markStop}
+use Rattle.window.specs.Acts.{redoActs, markActs}
 use Rattle.replica.specs.declared.Replica.{Replica}
-use Rattle.replica.specs.Record.{Outcome, withWindow, place, number, slotAt, grown, sweep}
+use Rattle.replica.specs.Record.{Outcome, withWindow, place, number}
 use Rattle.replica.specs.Fit.{fit, ready}
-use Rattle.replica.specs.Leadership.{firstOpen, lastOpen, redoActs, leadOn, stepUp, timeoutStep, markActs, markOn, markStop, commitNoticeStep}
+use Rattle.replica.specs.Leadership.{leadOn, stepUp, timeoutStep, markOn, commitNoticeStep}
 use Rattle.laws.specs.Leaves.{done}
 use Rattle.laws.specs.WaysMessages.{Keeps, Peer, peer-facts, ready-fit}
 

@@ -20,11 +20,13 @@ use Rattle.slots.specs.Slots.{preparedSlot, acknowledgedSlot}
 use Rattle.decide.specs.declared.Scalars.{Scalars}
 use Rattle.decide.specs.declared.Decided.{Decided}
 use Rattle.decide.specs.Scalars.{isMember, isPeer, followed, quorum}
-use Rattle.replica.specs.declared.Window.{Window}
+use Rattle.window.specs.declared.Window.{Window}
+use Rattle.window.specs.Window.{slotAt, putSlot, grown, sweep}
+use Rattle.window.specs.Acts.{promise}
 use Rattle.replica.specs.declared.Replica.{Replica}
-use Rattle.replica.specs.Record.{Outcome, kept, noting, settled, withWindow, place, number, logEnd, slotAt, putSlot, grown, sweep}
+use Rattle.replica.specs.Record.{Outcome, kept, noting, settled, withWindow, place, number, logEnd}
 use Rattle.replica.specs.Fit.{fit, roomy, ready}
-use Rattle.replica.specs.Messages.{clean, promise, downActs, prepareTop, prepareBook, prepareOn, prepareStep, acceptStep, acceptReplyStep}
+use Rattle.replica.specs.Messages.{clean, downActs, prepareTop, prepareBook, prepareOn, prepareStep, acceptStep, acceptReplyStep}
 use Rattle.laws.specs.Leaves.{done, settledTo, settled-silent, noting-ways}
 use Rattle.laws.specs.OfDecide.{accepts, commits, Acknowledges, decideAccept-ways, decideAcceptReply-ways}
 

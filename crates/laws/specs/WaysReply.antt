@@ -22,11 +22,13 @@ use Rattle.decide.specs.declared.Reply.{Reply}
 use Rattle.decide.specs.Scalars.{leads, isPeer, withPrepared}
 use Rattle.decide.specs.Bars.{withFallen}
 use Rattle.decide.specs.Decide.{silent, awaitsPrepare, decideVote, isCounted, decideCount}
-use Rattle.replica.specs.declared.Window.{Window}
+use Rattle.window.specs.declared.Window.{Window}
+use Rattle.window.specs.Window.{slotAt, putSlot, sweep}
+use Rattle.window.specs.Acts.{enterActs}
 use Rattle.replica.specs.declared.Replica.{Replica}
-use Rattle.replica.specs.Record.{Outcome, kept, noting, withWindow, place, number, logEnd, slotAt, putSlot, sweep}
+use Rattle.replica.specs.Record.{Outcome, kept, noting, withWindow, place, number, logEnd}
 use Rattle.replica.specs.Fit.{fit, ready}
-use Rattle.replica.specs.Messages.{appended, appendActs, enterActs, tabled, countedOn, votedOn, repliedOn, inRange, orKept, replyOn, cleanReply, prepareReplyStep}
+use Rattle.replica.specs.Messages.{appended, appendActs, tabled, countedOn, votedOn, repliedOn, inRange, orKept, replyOn, cleanReply, prepareReplyStep}
 use Rattle.laws.specs.Leaves.{done, keysAfter, withKeys, noting-ways, noting-refused}
 use Rattle.laws.specs.OfDecide.{Hears, decideCount-ways}
 use Rattle.laws.specs.WaysMessages.{KeepsFor, Peer, peer-facts, ready-fit}

@@ -12,10 +12,11 @@ use Rattle.base.specs.Over.{over, over-at, over-before, over-after, length-over
 use Rattle.base.specs.Find.{last-below}
 use Rattle.slots.specs.declared.Slot.{Slot}
 use Rattle.slots.specs.Slots.{nullSlot, noSlot, newBook, appendedSlot}
-use Rattle.replica.specs.declared.Window.{Window}
+use Rattle.window.specs.declared.Window.{Window}
+use Rattle.window.specs.Window.{slotAt, putSlot, grown, sweep, lastUsed}
 use Rattle.replica.specs.declared.Replica.{Replica}
-use Rattle.replica.specs.Record.{number, slotAt, putSlot, grown, sweep}
-use Rattle.replica.specs.Messages.{lastUsed, prepareTop, appended}
+use Rattle.replica.specs.Record.{number}
+use Rattle.replica.specs.Messages.{prepareTop, appended}
 use Rattle.laws.specs.OfBase.{set-each, over-each}
 
 -- how many slots the list behind a window has

@@ -15,10 +15,11 @@ use Rattle.actions.specs.Actions.{Act, writeAt, writeActions, saysActs}
 use Rattle.actions.specs.Saying.{Said}
 use Rattle.actions.specs.Laws.{write-front, said-in}
 use Rattle.decide.specs.declared.Decided.{Decided}
-use Rattle.replica.specs.declared.Window.{Window}
+use Rattle.window.specs.declared.Window.{Window}
+use Rattle.window.specs.Window.{putSlot}
 use Rattle.replica.specs.declared.Replica.{Replica}
 use Rattle.replica.specs.declared.Handled.{Handled}
-use Rattle.replica.specs.Record.{Outcome, kept, noting, settled, putSlot}
+use Rattle.replica.specs.Record.{Outcome, kept, noting, settled}
 use Rattle.replica.specs.Step.{Told}
 
 -- what a call that keeps the replica hands back

@@ -10,9 +10,10 @@ use Rattle.batch.specs.Batches.{isBatch}
 use Rattle.slots.specs.Slots.{executed, executedSlot}
 use Rattle.decide.specs.Scalars.{withBars}
 use Rattle.decide.specs.Decide.{mayOffer, decideOffer}
-use Rattle.replica.specs.declared.Window.{Window}
+use Rattle.window.specs.declared.Window.{Window}
+use Rattle.window.specs.Window.{slotAt, putSlot, grown}
 use Rattle.replica.specs.declared.Replica.{Replica}
-use Rattle.replica.specs.Record.{Outcome, kept, settled, withWindow, place, number, logEnd, slotAt, putSlot, grown}
+use Rattle.replica.specs.Record.{Outcome, kept, settled, withWindow, place, number, logEnd}
 use Rattle.replica.specs.Fit.{ready}
 use Rattle.replica.specs.Messages.{clean}
 

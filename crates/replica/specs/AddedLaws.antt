@@ -16,9 +16,12 @@ use Rattle.decide.specs.declared.Scalars.{Scalars}
 use Rattle.decide.specs.declared.Decided.{Decided}
 use Rattle.decide.specs.Scalars.{withBars}
 use Rattle.decide.specs.Decide.{mayOffer, decideOffer}
-use Rattle.replica.specs.declared.Window.{Window}
+use Rattle.window.specs.declared.Window.{Window}
+use Rattle.window.specs.Window.{slotAt, putSlot, grown}
+use Rattle.window.specs.Bounded.{grownIn, executedIn}
+use Rattle.window.specs.BoundedLaws.{grown-in, executed-in}
 use Rattle.replica.specs.declared.Replica.{Replica}
-use Rattle.replica.specs.Record.{Outcome, kept, settled, withWindow, logEnd, slotAt, putSlot, grown}
+use Rattle.replica.specs.Record.{Outcome, kept, settled, withWindow, logEnd}
 use Rattle.replica.specs.Fit.{ready}
 use Rattle.replica.specs.AdmitLaws.{Ready, unready-kept, ready-goes}
 use Rattle.replica.specs.Messages.{clean}
@@ -54,28 +57,29 @@ module _ (r : Replica) (room : ℕ) (b : Batch) where
         pub offer-full : 64 ≤ r .window .len → offerStep r room b ≡ kept 5 r
         offer-full h = offer-goes ∙ rw (f, g, le-leb 64 (r .window .len) h)
 
-        pub offer-settles : r .window .len < 64 → (w : Window) (c : Batch) (d : Decided) → w ≡ grown (r .window) (r .window .len + 1) → c ≡ clean b
+        pub offer-settles : r .window .len < 64 → (w : Window) (c : Batch) (d : Decided) → w ≡ grownIn (r .window) (r .window .len + 1) → c ≡ clean b
             → d ≡ decideOffer (r .sc) (logEnd r) c → offerStep r room b ≡ settled r w (r .window .len) (logEnd r) d
-        offer-settles h w c d p q s = offer-goes ∙ rw (f, g, lt-leb 64 (r .window .len) h, p, s, q)
+        offer-settles h w c d p q s = offer-goes ∙ rw (f, g, lt-leb 64 (r .window .len) h, p, grown-in (r .window) (r .window .len + 1) (omega arith), s, q)
 
 -- ── executed ──
 module _ (r : Replica) (w : Window) where
   -- where exec_bar stops is a place of the window
   pub exec-stop : (stop : ℕ) → ExecFits r
-      → stop ≡ scan (λ i. eqb (slotAt w i .status) 4) (r .sc .«exec_bar» - r .sc .start) (r .sc .«commit_bar» - r .sc .start) → stop ≤ 64
+      → stop ≡ executedIn w (r .sc .«exec_bar» - r .sc .start) (r .sc .«commit_bar» - r .sc .start) → stop ≤ 64
   exec-stop stop f e =
       omega (
         arith,
         f .within,
-        e,
+        e ∙ executed-in w (r .sc .«exec_bar» - r .sc .start) (r .sc .«commit_bar» - r .sc .start) (omega (arith, f .within)),
         scan-high (λ i. eqb (slotAt w i .status) 4) (r .sc .«exec_bar» - r .sc .start) (r .sc .«commit_bar» - r .sc .start) (omega (arith, f .ordered)),
       )
 
-  pub exec-moved : (stop : ℕ) (sc : Scalars)
-      → stop ≡ scan (λ i. eqb (slotAt w i .status) 4) (r .sc .«exec_bar» - r .sc .start) (r .sc .«commit_bar» - r .sc .start)
+  pub exec-moved : (stop : ℕ) (sc : Scalars) → ExecFits r
+      → stop ≡ executedIn w (r .sc .«exec_bar» - r .sc .start) (r .sc .«commit_bar» - r .sc .start)
       → sc ≡ withBars (r .sc) (r .sc .«accept_bar») (r .sc .«commit_bar») (r .sc .start + stop) → withWindow r sc w ≡ movedExec r w
   unfolding movedExec
-  exec-moved stop sc e f = rw (f, e)
+  exec-moved stop sc fits e f =
+      rw (f, e ∙ executed-in w (r .sc .«exec_bar» - r .sc .start) (r .sc .«commit_bar» - r .sc .start) (omega (arith, fits .within)))
 
 module _ (r : Replica) (room slot : ℕ) where
   abbrev executed-tests : Outcome

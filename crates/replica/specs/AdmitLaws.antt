@@ -11,9 +11,10 @@ use Rattle.members.specs.Ballots.{owns}
 use Rattle.members.specs.Laws.{group-bounds}
 use Rattle.tally.specs.Open.{fitReads}
 use Rattle.decide.specs.Scalars.{isMember, isPeer, fitScalars}
+use Rattle.window.specs.Window.{fitSlots}
 use Rattle.replica.specs.declared.Replica.{Replica}
 use Rattle.replica.specs.Record.{Outcome, kept}
-use Rattle.replica.specs.Fit.{fitSlots, fit, ready}
+use Rattle.replica.specs.Fit.{fit, ready}
 use Rattle.replica.specs.Admit.{fromMember, fromPeer, fromOwner}
 
 -- ── one number is tested first ──

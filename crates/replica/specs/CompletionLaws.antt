@@ -25,20 +25,24 @@ use Rattle.decide.specs.Scalars.{leads, withBars, withOffset, notifies}
 use Rattle.decide.specs.Decide.{decidePromised, decideAccepted}
 use Rattle.decide.specs.Laws.{Steady, Settles, done, refused, settles-accepted}
 use Rattle.decide.specs.PrepareReply.{ownReply}
-use Rattle.replica.specs.declared.Window.{Window}
-use Rattle.replica.specs.declared.Placed.{Placed}
+use Rattle.window.specs.declared.Window.{Window}
+use Rattle.window.specs.declared.Placed.{Placed}
+use Rattle.window.specs.Window.{slotAt, putSlot, passes}
+use Rattle.window.specs.Acts.{passActs}
+use Rattle.window.specs.Sweeps.{Swept}
+use Rattle.window.specs.Bounded.{stopIn}
+use Rattle.window.specs.BoundedLaws.{stop-in}
+use Rattle.window.specs.Laws.{passes-status}
 use Rattle.replica.specs.declared.Replica.{Replica}
 use Rattle.replica.specs.declared.Handled.{Handled}
 use Rattle.replica.specs.declared.Entry.{Entry}
 use Rattle.replica.specs.declared.Entry.the-variants.{PrepareBal, AcceptData, CommitSlot}
 use Rattle.replica.specs.declared.Done.{Done}
-use Rattle.replica.specs.Record.{Outcome, kept, noting, settled, withWindow, place, number, logEnd, slotAt, putSlot}
+use Rattle.replica.specs.Record.{Outcome, kept, noting, settled, withWindow, place, number, logEnd}
 use Rattle.replica.specs.Fit.{ready}
 use Rattle.replica.specs.Messages.{appended, appendActs, tabled, repliedOn, orKept, inRange, replyOn}
-use Rattle.replica.specs.Durability.{preparedDone, movedAccept, thenMoved, acceptedDone, passActs, noticeActs, passOn, passStop, committedDone, doneOn, loggedOn, loggedStep}
+use Rattle.replica.specs.Durability.{preparedDone, movedAccept, thenMoved, acceptedDone, noticeActs, passOn, passStop, committedDone, doneOn, loggedOn, loggedStep}
 use Rattle.replica.specs.Step.{Told}
-use Rattle.replica.specs.Sweeps.{passes, Swept}
-use Rattle.replica.specs.SweepLaws.{passes-status}
 use Rattle.replica.specs.AdmitLaws.{Ready, unready-kept, ready-goes}
 use Rattle.replica.specs.ActingLaws.{acted, told}
 use Rattle.replica.specs.Replying.{ReplyFits}
@@ -84,9 +88,10 @@ module _ (r : Replica) (from stop : ℕ) where
       (write-then room mid after first then 0 (p .next) (omega arith) (s .next) (s .written) (w .written))
       (rw (f, s .window, b, e))
 
-  pub pass-fits : (to : ℕ) (room : List ℕ) → BarsFit r → 3456 ≤ length room → from ≤ 64 → to ≤ 64 → stop ≡ scan (passes (r .window) 0 3) from to
+  pub pass-fits : (to : ℕ) (room : List ℕ) → BarsFit r → 3456 ≤ length room → from ≤ 64 → to ≤ 64 → stop ≡ stopIn (r .window) 0 3 from to
       → PassFits r from stop room
-  pass-fits to room f l a b e =
+  pass-fits to room f l a b q =
+      let e = q ∙ stop-in (r .window) from to 0 3 b in
       record {
         low = f .low;
         within = f .within;
@@ -100,13 +105,15 @@ module _ (r : Replica) (slot : ℕ) where
   unfolding committedDone
   committed-kept h = rw (ne-eqb slot (r .sc .«commit_bar») h)
 
-  pub committed-passes : (stop : ℕ) → slot ≡ r .sc .«commit_bar»
-      → stop ≡ scan (passes (r .window) 0 3) (r .sc .«commit_bar» - r .sc .start) (r .sc .«accept_bar» - r .sc .start)
+  pub committed-passes : (stop : ℕ) → BarsFit r → slot ≡ r .sc .«commit_bar»
+      → stop ≡ stopIn (r .window) 0 3 (r .sc .«commit_bar» - r .sc .start) (r .sc .«accept_bar» - r .sc .start)
       → committedDone r slot ≡ passOn r (r .sc .«commit_bar» - r .sc .start) stop
   unfolding committedDone passStop
-  committed-passes stop h e =
+  committed-passes stop f h e =
+      let old : ℕ = r .sc .«commit_bar» - r .sc .start in
+      let to : ℕ = r .sc .«accept_bar» - r .sc .start in
       rw (eq-eqb slot (r .sc .«commit_bar») h)
-      (ap (passOn r (r .sc .«commit_bar» - r .sc .start)) (sym (e ∙ passes-status (r .window) 3 _ _)))
+      (ap (passOn r old) (sym (e ∙ stop-in (r .window) old to 0 3 (omega (arith, f .accept-high, f .within)) ∙ passes-status (r .window) 3 old to)))
 
 -- ── accept_bar ──
 module _ (r : Replica) (slot : ℕ) where
@@ -114,17 +121,18 @@ module _ (r : Replica) (slot : ℕ) where
   unfolding movedAccept
   moved-kept h = rw (ne-eqb slot (r .sc .«accept_bar») h)
 
-  pub moved-high : (stop : ℕ) → BarsFit r → stop ≡ scan (passes (r .window) 0 2) (r .sc .«accept_bar» - r .sc .start) (r .window .len) → stop ≤ 64
+  pub moved-high : (stop : ℕ) → BarsFit r → stop ≡ stopIn (r .window) 0 2 (r .sc .«accept_bar» - r .sc .start) (r .window .len) → stop ≤ 64
   moved-high stop f e =
-      omega (arith, e, scan-below (passes (r .window) 0 2) (r .sc .«accept_bar» - r .sc .start) (r .window .len) 64 (omega (arith, f .accept-high, f .within)) (f .within))
+      omega (arith, e ∙ stop-in (r .window) (r .sc .«accept_bar» - r .sc .start) (r .window .len) 0 2 (f .within), scan-below (passes (r .window) 0 2) (r .sc .«accept_bar» - r .sc .start) (r .window .len) 64 (omega (arith, f .accept-high, f .within)) (f .within))
 
-  pub moved-on : (sc : Scalars) (stop bar : ℕ) → slot ≡ r .sc .«accept_bar»
-      → stop ≡ scan (passes (r .window) 0 2) (r .sc .«accept_bar» - r .sc .start) (r .window .len) → bar ≡ r .sc .start + stop
+  pub moved-on : (sc : Scalars) (stop bar : ℕ) → BarsFit r → slot ≡ r .sc .«accept_bar»
+      → stop ≡ stopIn (r .window) 0 2 (r .sc .«accept_bar» - r .sc .start) (r .window .len) → bar ≡ r .sc .start + stop
       → sc ≡ withBars (r .sc) bar (r .sc .«commit_bar») (r .sc .«exec_bar»)
       → record { sc = sc; bars = r .bars; window = r .window; keys = r .keys; reads = r .reads } ≡ movedAccept r slot
   unfolding movedAccept
-  moved-on sc stop bar h e b f =
-      rw (eq-eqb slot (r .sc .«accept_bar») h, f, b, e ∙ passes-status (r .window) 2 (r .sc .«accept_bar» - r .sc .start) (r .window .len))
+  moved-on sc stop bar fits h e b f =
+      let from : ℕ = r .sc .«accept_bar» - r .sc .start in
+      rw (eq-eqb slot (r .sc .«accept_bar») h, f, b, e ∙ stop-in (r .window) from (r .window .len) 0 2 (fits .within) ∙ passes-status (r .window) 2 from (r .window .len))
 
 -- what is settled for one slot leaves the bars and the log as they were
 pub bars-kept : (r p : Replica) → Steady (r .sc) (p .sc) → p .window .len ≡ r .window .len → BarsFit r → BarsFit p

@@ -6,20 +6,21 @@ use lib.Dec.{ltb, leb, eqb}
 use Rattle.base.specs.Pick.{pick}
 use Rattle.base.specs.Gather.{gather}
 use Rattle.base.specs.Scan.{scan}
-use Rattle.actions.specs.declared.Action.the-variants.{CommitNotice, Execute}
-use Rattle.actions.specs.Actions.{Act, act, bare}
+use Rattle.actions.specs.declared.Action.the-variants.{CommitNotice}
+use Rattle.actions.specs.Actions.{Act, bare}
 use Rattle.slots.specs.declared.Slot.{Slot}
 use Rattle.slots.specs.Slots.{accepting, committed, loggedSlot, passedSlot}
 use Rattle.decide.specs.declared.Scalars.{Scalars}
 use Rattle.decide.specs.Scalars.{leads, notifies, withBars, withOffset}
 use Rattle.decide.specs.Decide.{decidePromised, decideAccepted}
 use Rattle.decide.specs.PrepareReply.{ownReply}
-use Rattle.replica.specs.declared.Window.{Window}
+use Rattle.window.specs.Window.{slotAt, putSlot, sweep}
+use Rattle.window.specs.Acts.{passActs}
 use Rattle.replica.specs.declared.Replica.{Replica}
 use Rattle.replica.specs.declared.Entry.{Entry}
 use Rattle.replica.specs.declared.Entry.the-variants.{PrepareBal, AcceptData, CommitSlot}
 use Rattle.replica.specs.declared.Done.{Done}
-use Rattle.replica.specs.Record.{Outcome, kept, settled, withWindow, place, number, logEnd, slotAt, putSlot, sweep}
+use Rattle.replica.specs.Record.{Outcome, kept, settled, withWindow, place, number, logEnd}
 use Rattle.replica.specs.Fit.{ready}
 use Rattle.replica.specs.Messages.{orKept, replyOn}
 
@@ -52,12 +53,6 @@ thenMoved slot o =
 
 unfoldable pub acceptedDone : Replica → ℕ → ℕ → Slot → Outcome
 acceptedDone r i slot s = thenMoved slot (settled r (r .window) i slot (decideAccepted (r .sc) s slot))
-
--- "One Execute action per batch"; an empty batch is executed at once
-abbrev pub passActs : ℕ → Slot → List Act
-passActs slot s =
-    pick (eqb (s .batch .id) 0 || not (eqb (s .status) committed)) []
-    (act (Execute (record { slot = slot; batch = s .batch .id; count = s .batch .count })) (s .batch .keys) ∷ [])
 
 -- "if I'm the leader and urgent CommitNotice is on", once the end of the log is committed
 abbrev pub noticeActs : Scalars → ℕ → ℕ → List Act

@@ -22,17 +22,21 @@ use Rattle.decide.specs.declared.Scalars.{Scalars}
 use Rattle.decide.specs.declared.PeerBars.{PeerBars}
 use Rattle.decide.specs.Scalars.{steppedUp, ignoresTimeout}
 use Rattle.decide.specs.Bars.{unknownBars}
-use Rattle.replica.specs.declared.Window.{Window}
+use Rattle.window.specs.declared.Window.{Window}
+use Rattle.window.specs.declared.Placed.{Placed}
+use Rattle.window.specs.Window.{grown, firstOpen, lastOpen, markStop, passes}
+use Rattle.window.specs.Acts.{redoActs, markActs}
+use Rattle.window.specs.Sweeps.{sweepActs, Ranged, Swept}
+use Rattle.window.specs.Bounded.{grownIn, lastOpenIn, stopIn}
+use Rattle.window.specs.BoundedLaws.{grown-in, lastOpen-in, stop-in}
+use Rattle.window.specs.Laws.{grown-within, grown-keeps, firstOpen-stop, firstOpen-within, markStop-stop, markStop-low, markStop-within}
 use Rattle.replica.specs.declared.Replica.{Replica}
-use Rattle.replica.specs.declared.Placed.{Placed}
-use Rattle.replica.specs.Record.{Outcome, kept, withWindow, grown}
-use Rattle.replica.specs.Leadership.{firstOpen, lastOpen, redoActs, leadOn, stepUp, timeoutStep, markActs, markOn, markStop, commitNoticeStep}
+use Rattle.replica.specs.Record.{Outcome, kept, withWindow}
+use Rattle.replica.specs.Leadership.{leadOn, stepUp, timeoutStep, markOn, commitNoticeStep}
 use Rattle.replica.specs.Step.{Told}
 use Rattle.replica.specs.Admit.{fromMember, fromOwner}
 use Rattle.replica.specs.AdmitLaws.{gate-member, gate-owner, gate-shut, gate-open, Ready}
 use Rattle.replica.specs.ActingLaws.{acted}
-use Rattle.replica.specs.Sweeps.{passes, sweepActs, Ranged, Swept}
-use Rattle.replica.specs.SweepLaws.{grown-within, grown-keeps, firstOpen-stop, firstOpen-within, markStop-stop, markStop-low, markStop-within}
 use Rattle.replica.specs.ElectionFits.{StepFits, LeadFits}
 
 -- ── a timeout ──
@@ -65,9 +69,9 @@ unfolding stepUp
 step-spent r = refl
 
 -- ── the trigger slot, found at place i ──
-module _ (r : Replica) (i : ℕ) (e : i ≡ scan (passes (r .window) 0 3) 0 (r .window .len)) where
+module _ (r : Replica) (l : r .window .len ≤ 64) (i : ℕ) (e : i ≡ stopIn (r .window) 0 3 0 (r .window .len)) where
   found : i ≡ firstOpen (r .window)
-  found = e ∙ sym (firstOpen-stop (r .window))
+  found = e ∙ stop-in (r .window) 0 (r .window .len) 0 3 l ∙ sym (firstOpen-stop (r .window))
 
   pub found-within : i ≤ r .window .len
   found-within = omega (arith, found, firstOpen-within (r .window))
@@ -81,19 +85,19 @@ module _ (r : Replica) (i : ℕ) (e : i ≡ scan (passes (r .window) 0 3) 0 (r .
     unfolding stepUp
     step-full h q = rw (← found, le-ltb (r .sc .start + i) (r .sc .«exec_bar») h, le-leb 64 i q)
 
-    pub step-on : {last : ℕ} {w : Window} → r .sc .«exec_bar» ≤ r .sc .start + i → i < 64 → last ≡ lastOpen (r .window) → w ≡ grown (r .window) (i + 1)
+    pub step-on : {last : ℕ} {w : Window} → r .sc .«exec_bar» ≤ r .sc .start + i → i < 64 → last ≡ lastOpenIn (r .window) → w ≡ grownIn (r .window) (i + 1)
         → stepUp r (Ballot ballot) ≡ leadOn r w (r .sc .start + i) (r .sc .start + last) ballot
     unfolding stepUp
-    step-on h q f g = rw (g, f, ← found, le-ltb (r .sc .start + i) (r .sc .«exec_bar») h, lt-leb 64 i q)
+    step-on h q f g = rw (g, grown-in (r .window) (i + 1) (omega arith), f, lastOpen-in (r .window) l, ← found, le-ltb (r .sc .start + i) (r .sc .«exec_bar») h, lt-leb 64 i q)
 
 -- what an admitted call hands on, and what the window with the trigger slot keeps of it
 pub ready-fits : (r : Replica) (room : List ℕ) → Ready r (length room) → StepFits r room
 ready-fits r room f =
     record { long = f .long; low = f .low; within = f .within; exec-low = f .exec-low; exec-high = omega (arith, f .exec-high, f .commit-high) }
 
-pub grown-fits : (r : Replica) (w : Window) (room : List ℕ) {n : ℕ} → StepFits r room → n ≤ 64 → w ≡ grown (r .window) n → LeadFits r w room
+pub grown-fits : (r : Replica) (w : Window) (room : List ℕ) {n : ℕ} → StepFits r room → n ≤ 64 → w ≡ grownIn (r .window) n → LeadFits r w room
 grown-fits r w room {n} f h e =
-    let l : w .len ≡ grown (r .window) n .len = ap (λ (v : Window). v .len) e in
+    let l : w .len ≡ grown (r .window) n .len = ap (λ (v : Window). v .len) (e ∙ grown-in (r .window) n h) in
     record {
       long = f .long;
       low = f .low;
@@ -166,17 +170,19 @@ module _ (r : Replica) (ballot bar : ℕ) where
           pub notice-past : r .sc .start + 64 < bar → commitNoticeStep r room peer ballot bar ≡ kept 5 r
           notice-past l = notice-on ∙ rw (eq-eqb ballot (r .sc .«bal_max_seen») g, lt-leb bar (r .sc .«commit_bar») k, lt-ltb (r .sc .start + 64) bar l)
 
-          pub notice-marks : {w : Window} {stop : ℕ} → bar ≤ r .sc .start + 64 → w ≡ grown (r .window) new → stop ≡ scan (passes w ballot 2) old new
+          pub notice-marks : {w : Window} {stop : ℕ} → bar ≤ r .sc .start + 64 → w ≡ grownIn (r .window) new → stop ≡ stopIn w ballot 2 old new
               → commitNoticeStep r room peer ballot bar ≡ markOn r w old stop
-          notice-marks {w} {stop} l p q =
+          notice-marks {w} {stop} l p′ q′ =
+              let p : w ≡ grown (r .window) new = p′ ∙ grown-in (r .window) new (omega arith) in
+              let q : stop ≡ markStop w ballot old new = q′ ∙ stop-in w old new ballot 2 (omega arith) ∙ sym (markStop-stop w ballot old new) in
               notice-on
-              ∙ rw (eq-eqb ballot (r .sc .«bal_max_seen») g, lt-leb bar (r .sc .«commit_bar») k, le-ltb (r .sc .start + 64) bar l, ← p, q, ← markStop-stop w ballot old new)
+              ∙ rw (eq-eqb ballot (r .sc .«bal_max_seen») g, lt-leb bar (r .sc .«commit_bar») k, le-ltb (r .sc .start + 64) bar l, ← p, q)
 
   -- the places that are marked are places of the window
   pub mark-fits : {stop : ℕ} (w : Window) (room : List ℕ) → Ready r (length room) → r .sc .«commit_bar» < bar → bar ≤ r .sc .start + 64
-      → stop ≡ scan (passes w ballot 2) old new → Ranged old stop 0 room (r .sc .start)
+      → stop ≡ stopIn w ballot 2 old new → Ranged old stop 0 room (r .sc .start)
   mark-fits {stop} w room f h l e =
-      let s : stop ≡ markStop w ballot old new = e ∙ sym (markStop-stop w ballot old new) in
+      let s : stop ≡ markStop w ballot old new = e ∙ stop-in w old new ballot 2 (omega arith) ∙ sym (markStop-stop w ballot old new) in
       let low = markStop-low w ballot old new in
       let high = markStop-within w ballot old new (omega arith) in
       record { ordered = omega arith; within = omega arith; places = omega arith; long = f .long; low = f .low }

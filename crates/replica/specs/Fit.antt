@@ -5,15 +5,9 @@ use Prim.Native.Nat.{ℕ}
 use lib.Dec.{leb}
 use Rattle.base.specs.Find.{any}
 use Rattle.tally.specs.Open.{fitReads}
-use Rattle.slots.specs.Slots.{fitSlot}
 use Rattle.decide.specs.Scalars.{fitScalars}
-use Rattle.replica.specs.declared.Window.{Window}
+use Rattle.window.specs.Window.{fitSlots}
 use Rattle.replica.specs.declared.Replica.{Replica}
-use Rattle.replica.specs.Record.{slotAt}
-
--- the slots in use
-unfoldable pub fitSlots : ℕ → Window → Bool
-fitSlots group w = not (any (λ i. not (fitSlot group (slotAt w i))) 0 (w .len))
 
 unfoldable pub fit : Replica → Bool
 fit r =

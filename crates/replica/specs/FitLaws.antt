@@ -3,23 +3,19 @@ use mathlib.Core.Path.{_≡_, sym, ap, _∙_}
 use mathlib.Core.Bool.{Bool, true, false, not, and-false}
 use Prim.Native.Nat.{ℕ, _+_, _≤_, _<_}
 use native.Mathlib.Omega.{arith}
-use borrow.Author.Tests.{not-true, not-false, le-leb, lt-leb}
+use borrow.Author.Tests.{le-leb, lt-leb}
 use Rattle.base.specs.Pick.{pick}
-use Rattle.base.specs.Find.{twice, any, any-false, search-found, search-more, search-done}
 use Rattle.batch.specs.declared.KeyTable.{KeyTable}
 use Rattle.batch.specs.Keys.{emptyTable}
 use Rattle.tally.specs.declared.Reads.{Reads}
 use Rattle.tally.specs.Open.{noReads, fitReads}
-use Rattle.slots.specs.Slots.{fitSlot}
 use Rattle.decide.specs.Bars.{unknownBars}
 use Rattle.decide.specs.Scalars.{mayBe, fitScalars}
-use Rattle.replica.specs.declared.Window.{Window}
+use Rattle.window.specs.declared.Window.{Window}
+use Rattle.window.specs.Window.{noSlots, fitSlots}
 use Rattle.replica.specs.declared.Replica.{Replica}
-use Rattle.replica.specs.Record.{slotAt, noSlots, freshScalars, fresh, zeroReplica, newReplica}
-use Rattle.replica.specs.Fit.{fitSlots, fit}
-
-abbrev pub unfitSlot : ℕ → Window → ℕ → Bool
-unfitSlot group w i = not (fitSlot group (slotAt w i))
+use Rattle.replica.specs.Record.{freshScalars, fresh, zeroReplica, newReplica}
+use Rattle.replica.specs.Fit.{fit}
 
 -- the fit test, by its four parts
 module _ (r : Replica) where
@@ -39,26 +35,6 @@ module _ (r : Replica) where
       → fitReads (r .sc .group) (r .reads) ≡ fit r
   unfolding fit
   fit-last e f h = rw (e, f, le-leb (r .keys .count) 256 h)
-
--- the searches, by the code's loops
-module _ (group : ℕ) (w : Window) where
-  pub slots-found : (i : ℕ) (b : Bool) → i < w .len → b ≡ fitSlot group (slotAt w i) → not b ≡ true → false ≡ fitSlots group w
-  unfolding fitSlots
-  slots-found i b l e h = search-found (unfitSlot group w) i (w .len) b l (e ∙ twice (fitSlot group (slotAt w i))) h
-
-  pub slots-more : (i : ℕ) (b : Bool) → any (unfitSlot group w) 0 i ≡ false → b ≡ fitSlot group (slotAt w i) → not b ≡ false
-      → any (unfitSlot group w) 0 (i + 1) ≡ false
-  slots-more i b a e h = search-more (unfitSlot group w) i b a (e ∙ twice (fitSlot group (slotAt w i))) h
-
-  pub slots-done : (i : ℕ) → any (unfitSlot group w) 0 i ≡ false → i ≡ w .len → true ≡ fitSlots group w
-  unfolding fitSlots
-  slots-done i a h = search-done (unfitSlot group w) i (w .len) a h
-
-  -- what the answer says of each slot in use
-  pub slot-fits : (i : ℕ) → fitSlots group w ≡ true → i < w .len → fitSlot group (slotAt w i) ≡ true
-  unfolding fitSlots
-  slot-fits i e l =
-      not-false _ (any-false (unfitSlot group w) 0 (w .len) i (not-true (any (unfitSlot group w) 0 (w .len)) e) (omega arith) l)
 
 -- a new replica, refused and made
 module _ (id group start options : ℕ) {w : Window} {t : KeyTable} {rs : Reads} (a : w ≡ noSlots) (b : t ≡ emptyTable) (c : rs ≡ noReads) where

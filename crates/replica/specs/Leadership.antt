@@ -5,33 +5,22 @@ use Prim.Native.Nat.{ℕ, _+_}
 use lib.Dec.{ltb, leb, eqb}
 use Rattle.base.specs.Pick.{pick}
 use Rattle.base.specs.Gather.{gather}
-use Rattle.base.specs.Find.{last}
-use Rattle.base.specs.Scan.{scan}
 use Rattle.members.specs.declared.NextBallot.{NextBallot}
 use Rattle.members.specs.declared.NextBallot.the-variants.{Ballot, Spent}
 use Rattle.members.specs.Ballots.{owns, nextBallot, nextAnswer}
-use Rattle.actions.specs.declared.Action.the-variants.{CommitSlot, Prepare, Heartbeat, StatusUp}
-use Rattle.actions.specs.Actions.{Act, bare}
-use Rattle.slots.specs.declared.Slot.{Slot}
-use Rattle.slots.specs.Slots.{accepting, committed, newBook, redoneSlot, markedSlot}
+use Rattle.actions.specs.declared.Action.the-variants.{Prepare, Heartbeat, StatusUp}
+use Rattle.actions.specs.Actions.{bare}
+use Rattle.slots.specs.Slots.{newBook, redoneSlot, markedSlot}
 use Rattle.decide.specs.Scalars.{isMember, isPeer, steppedUp, ignoresTimeout}
 use Rattle.decide.specs.Bars.{unknownBars}
-use Rattle.replica.specs.declared.Window.{Window}
+use Rattle.window.specs.declared.Window.{Window}
+use Rattle.window.specs.Window.{slotAt, grown, sweep, firstOpen, lastOpen, markStop}
+use Rattle.window.specs.Acts.{redoActs, markActs}
 use Rattle.replica.specs.declared.Replica.{Replica}
-use Rattle.replica.specs.Record.{Outcome, kept, withWindow, place, number, slotAt, grown, sweep}
+use Rattle.replica.specs.Record.{Outcome, kept, withWindow, place, number}
 use Rattle.replica.specs.Fit.{ready}
-use Rattle.replica.specs.Messages.{promise}
 
 -- ── Timeout: become_a_leader "is ignored if a leader is known and is not the timeout's source, or if disallowed" (`ignoresTimeout`) ──
--- the places of the first and the last slot below Committed, the length where there is none
-unfoldable pub firstOpen : Window → ℕ
-firstOpen w = scan (λ i. leb committed (slotAt w i .status)) 0 (w .len)
-
-unfoldable pub lastOpen : Window → ℕ
-lastOpen w = last (λ i. ltb (slotAt w i .status) committed) (w .len) (w .len)
-
-abbrev pub redoActs : ℕ → ℕ → Slot → List Act
-redoActs slot ballot s = pick (leb committed (s .status)) [] (promise slot ballot ∷ [])
 
 -- "Action order: status up, heartbeat, PrepareBal by rising slot, Prepare." The window w has the trigger slot
 unfoldable pub leadOn : Replica → Window → ℕ → ℕ → ℕ → Outcome
@@ -69,12 +58,6 @@ timeoutStep r room source =
 
 -- ── CommitNotice: advance_commit_bar "needs ballot = bal_max_seen, fills null slots below the told bar, marks, and stops at the first slot
 -- with a smaller ballot or a status below Accepting" ──
-abbrev pub mayMark : ℕ → Slot → Bool
-mayMark ballot s = leb ballot (s .ballot) && leb accepting (s .status)
-
-abbrev pub markActs : ℕ → Slot → List Act
-markActs slot s = pick (leb committed (s .status)) [] (bare (CommitSlot (record { slot = slot })) ∷ [])
-
 -- the window w has every slot below the told bar: the slots at places `from` to `stop` are marked
 unfoldable pub markOn : Replica → Window → ℕ → ℕ → Outcome
 markOn r w from stop =
@@ -83,9 +66,6 @@ markOn r w from stop =
       replica = withWindow r (r .sc) (sweep (λ i s. markedSlot s) from stop w);
       actions = gather (λ i. markActs (number (r .sc) i) (slotAt w i)) from stop;
     }
-
-unfoldable pub markStop : Window → ℕ → ℕ → ℕ → ℕ
-markStop w ballot from to = scan (λ i. mayMark ballot (slotAt w i)) from to
 
 unfoldable pub commitNoticeStep : Replica → ℕ → ℕ → ℕ → ℕ → Outcome
 commitNoticeStep r room peer ballot bar =

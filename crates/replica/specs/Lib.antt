@@ -12,8 +12,6 @@ pub mod AdmitLaws
 pub mod FitLaws
 pub mod Acting
 pub mod ActingLaws
-pub mod Sweeps
-pub mod SweepLaws
 pub mod MessageFits
 pub mod MessageLaws
 pub mod ElectionFits
@@ -24,6 +22,7 @@ pub mod AddedFits
 pub mod AddedLaws
 pub mod Worth
 pub mod Replying
+pub mod AppendLaws
 pub mod ReplyLaws
 pub mod CompletionFits
 pub mod CompletionLaws

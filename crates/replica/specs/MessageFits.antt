@@ -5,7 +5,7 @@ use Prim.Native.Nat.{ℕ, _≤_, _<_}
 use lib.ListN.{length}
 use Rattle.actions.specs.Actions.{writeAt}
 use Rattle.decide.specs.declared.Scalars.{Scalars}
-use Rattle.replica.specs.declared.Window.{Window}
+use Rattle.window.specs.declared.Window.{Window}
 use Rattle.replica.specs.declared.Replica.{Replica}
 use Rattle.replica.specs.Messages.{downActs}
 

@@ -23,17 +23,21 @@ use Rattle.decide.specs.declared.Scalars.{Scalars}
 use Rattle.decide.specs.declared.Decided.{Decided}
 use Rattle.decide.specs.Scalars.{followed, stepsDown}
 use Rattle.decide.specs.Decide.{decideAccept, decideAcceptReply}
-use Rattle.replica.specs.declared.Window.{Window}
+use Rattle.window.specs.declared.Window.{Window}
+use Rattle.window.specs.declared.Placed.{Placed}
+use Rattle.window.specs.Window.{slotAt, grown, lastUsed}
+use Rattle.window.specs.Acts.{promise}
+use Rattle.window.specs.Sweeps.{Swept}
+use Rattle.window.specs.Bounded.{grownIn}
+use Rattle.window.specs.BoundedLaws.{grown-in}
+use Rattle.window.specs.Laws.{grown-within, lastUsed-within}
 use Rattle.replica.specs.declared.Replica.{Replica}
-use Rattle.replica.specs.declared.Placed.{Placed}
-use Rattle.replica.specs.Record.{Outcome, kept, settled, withWindow, place, number, logEnd, slotAt, grown}
-use Rattle.replica.specs.Messages.{clean, promise, downActs, lastUsed, prepareTop, prepareOn, prepareStep, acceptOn, acceptStep, acceptReplyStep}
+use Rattle.replica.specs.Record.{Outcome, kept, settled, withWindow, place, number, logEnd}
+use Rattle.replica.specs.Messages.{clean, downActs, prepareTop, prepareOn, prepareStep, acceptOn, acceptStep, acceptReplyStep}
 use Rattle.replica.specs.Step.{Told}
 use Rattle.replica.specs.Admit.{fromPeer, fromOwner}
 use Rattle.replica.specs.AdmitLaws.{gate-owner, gate-peer, gate-shut, gate-open}
 use Rattle.replica.specs.ActingLaws.{acted}
-use Rattle.replica.specs.Sweeps.{Swept}
-use Rattle.replica.specs.SweepLaws.{grown-within, lastUsed-within}
 use Rattle.replica.specs.MessageFits.{WroteDown}
 
 -- ── a leader that steps down says so first ──
@@ -84,15 +88,15 @@ module _ (r : Replica) (n peer trigger ballot first : ℕ) (e : first ≡ fromOw
             prepare-open
             ∙ rw (le-ltb trigger (r .sc .start) f, le-ltb ballot (r .sc .«bal_max_seen») g, le-leb (r .sc .start + 64) trigger h)
 
-        pub prepare-goes : (w : Window) → trigger < r .sc .start + 64 → w ≡ grown (r .window) (place (r .sc) trigger + 1)
+        pub prepare-goes : (w : Window) → trigger < r .sc .start + 64 → w ≡ grownIn (r .window) (place (r .sc) trigger + 1)
             → prepareStep r n peer trigger ballot ≡ prepareOn r w (place (r .sc) trigger) peer ballot
         prepare-goes w h q =
             prepare-open
-            ∙ rw (le-ltb trigger (r .sc .start) f, le-ltb ballot (r .sc .«bal_max_seen») g, lt-leb (r .sc .start + 64) trigger h, ← q)
+            ∙ rw (le-ltb trigger (r .sc .start) f, le-ltb ballot (r .sc .«bal_max_seen») g, lt-leb (r .sc .start + 64) trigger h, q, grown-in (r .window) (place (r .sc) trigger + 1) (omega arith))
 
 -- the window as the code has it, grown to the trigger's place
-pub grown-fits : {v : Window} (w : Window) (n : ℕ) → v ≡ grown w n → w .len ≤ 64 → n ≤ 64 → v .len ≤ 64
-grown-fits w n e h q = rw e (grown-within w n h q)
+pub grown-fits : {v : Window} (w : Window) (n : ℕ) → v ≡ grownIn w n → w .len ≤ 64 → n ≤ 64 → v .len ≤ 64
+grown-fits w n e h q = rw (e, grown-in w n q) (grown-within w n h q)
 
 -- the last place that it covers, as the code has it
 pub top-within : (w : Window) (from last top : ℕ) → last ≡ lastUsed w → top ≡ larger from last → w .len ≤ 64 → from < 64 → (from ≤ top) × (top < 64)
@@ -189,12 +193,12 @@ module _ (r : Replica) (n peer slot ballot : ℕ) (b : Batch) (first : ℕ) (e :
           accept-past h =
               accept-made ∙ rw (le-ltb slot (r .sc .start) f, le-ltb ballot (r .sc .«bal_max_seen») g, le-leb (r .sc .start + 64) slot h)
 
-          pub accept-goes : (w : Window) (d : Decided) → slot < r .sc .start + 64 → w ≡ grown (r .window) (place (r .sc) slot + 1)
+          pub accept-goes : (w : Window) (d : Decided) → slot < r .sc .start + 64 → w ≡ grownIn (r .window) (place (r .sc) slot + 1)
               → d ≡ decideAccept (r .sc) (slotAt w (place (r .sc) slot)) peer slot ballot (m .batch)
               → acceptStep r n peer slot ballot b ≡ settled r w (place (r .sc) slot) slot d
           accept-goes w d h q v =
               accept-made
-              ∙ rw (le-ltb slot (r .sc .start) f, le-ltb ballot (r .sc .«bal_max_seen») g, lt-leb (r .sc .start + 64) slot h, ← q, ← v)
+              ∙ rw (le-ltb slot (r .sc .start) f, le-ltb ballot (r .sc .«bal_max_seen») g, lt-leb (r .sc .start + 64) slot h, ← grown-in (r .window) (place (r .sc) slot + 1) (omega arith), ← q, ← v)
 
 -- ── AcceptReply ──
 

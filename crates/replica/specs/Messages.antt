@@ -6,43 +6,38 @@ use lib.Dec.{ltb, leb, eqb}
 use Rattle.base.specs.Pick.{pick, larger}
 use Rattle.base.specs.Over.{over}
 use Rattle.base.specs.Gather.{gather}
-use Rattle.base.specs.Find.{any, last}
+use Rattle.base.specs.Find.{any}
 use Rattle.members.specs.Ballots.{owns}
 use Rattle.batch.specs.declared.Batch.{Batch}
 use Rattle.batch.specs.Batches.{isBatch, makeBatch}
-use Rattle.actions.specs.declared.Action.the-variants.{PrepareBal, AcceptData, Accept, StatusDown}
-use Rattle.actions.specs.Actions.{Act, act, bare}
+use Rattle.actions.specs.declared.Action.the-variants.{StatusDown}
+use Rattle.actions.specs.Actions.{Act, bare}
 use Rattle.slots.specs.declared.Vote.{Vote}
 use Rattle.slots.specs.declared.ReplicaBook.{ReplicaBook}
-use Rattle.slots.specs.declared.Slot.{Slot}
-use Rattle.slots.specs.Slots.{preparing, newBook, noSlot, preparedSlot, appendedSlot, enteredSlot}
+use Rattle.slots.specs.Slots.{newBook, noSlot, preparedSlot, appendedSlot, enteredSlot}
 use Rattle.decide.specs.declared.Scalars.{Scalars}
 use Rattle.decide.specs.declared.Decided.{Decided}
 use Rattle.decide.specs.declared.Reply.{Reply}
 use Rattle.decide.specs.Scalars.{leads, isPeer, followed, stepsDown}
 use Rattle.decide.specs.Bars.{withBar, withFallen}
-use Rattle.decide.specs.Decide.{decideAccept, decideAcceptReply, awaitsPrepare, decideVote, isCounted, decideCount, proposal}
+use Rattle.decide.specs.Decide.{decideAccept, decideAcceptReply, awaitsPrepare, decideVote, isCounted, decideCount}
 use Rattle.decide.specs.PrepareReply.{inLog, withVoted}
-use Rattle.replica.specs.declared.Window.{Window}
+use Rattle.window.specs.declared.Window.{Window}
+use Rattle.window.specs.Window.{slotAt, putSlot, grown, sweep, lastUsed}
+use Rattle.window.specs.Acts.{promise, enterActs}
 use Rattle.replica.specs.declared.Replica.{Replica}
-use Rattle.replica.specs.Record.{Outcome, kept, noting, settled, withWindow, place, number, logEnd, slotAt, putSlot, grown, sweep}
+use Rattle.replica.specs.Record.{Outcome, kept, noting, settled, withWindow, place, number, logEnd}
 use Rattle.replica.specs.Fit.{ready}
 
 -- a batch as a message names it, its unused key numbers dropped
 abbrev pub clean : Batch → Batch
 clean b = makeBatch (b .id) (b .count) (b .keys) .batch
 
-abbrev pub promise : ℕ → ℕ → Act
-promise slot ballot = bare (PrepareBal (record { slot = slot; ballot = ballot }))
-
 -- check_leader: "a leader first reports that it is none"
 abbrev pub downActs : Scalars → ℕ → List Act
 downActs sc ballot = pick (stepsDown sc ballot) (bare StatusDown ∷ []) []
 
 -- ── Prepare: "covers trigger to the larger of trigger and the last non-null slot, and puts even committed slots back to Preparing" ──
-unfoldable pub lastUsed : Window → ℕ
-lastUsed w = last (λ i. ltb 0 (slotAt w i .status)) 0 (w .len)
-
 abbrev pub prepareTop : Window → ℕ → ℕ
 prepareTop w from = larger from (lastUsed w)
 
@@ -82,13 +77,6 @@ appended r j i =
 
 abbrev pub appendActs : Replica → ℕ → List Act
 appendActs r i = gather (λ k. promise (number (r .sc) k) (r .sc .«bal_prep_sent») ∷ []) (r .window .len) (i + 1)
-
--- "At quorum every Preparing slot from trigger on gives AcceptData, then Accept."
-abbrev pub enterActs : ℕ → ℕ → Slot → List Act
-enterActs slot ballot s =
-    pick (eqb (s .status) preparing)
-    (act (AcceptData (proposal slot ballot (s .batch))) (s .batch .keys) ∷ act (Accept (proposal slot ballot (s .batch))) (s .batch .keys) ∷ [])
-    []
 
 -- the replica with a member's accept bar in its table
 abbrev pub tabled : Replica → ℕ → ℕ → Replica

@@ -3,22 +3,20 @@ use mathlib.Core.Path.{_≡_}
 use mathlib.Core.Bool.{Bool, true, false, not, _&&_, _||_}
 use mathlib.Core.List.{List, []}
 use Prim.Native.Nat.{ℕ, _+_, _-_}
-use lib.Dec.{leb, eqb}
-use lib.ListN.{length, getD, set, replicate}
+use lib.Dec.{eqb}
+use lib.ListN.{replicate}
 use Rattle.base.specs.Pick.{pick}
-use Rattle.base.specs.Over.{over}
 use Rattle.batch.specs.declared.Batch.{Batch}
 use Rattle.batch.specs.Keys.{emptyTable, refresh, overfull}
 use Rattle.tally.specs.Open.{noReads}
 use Rattle.actions.specs.Actions.{Act, saysActs}
-use Rattle.slots.specs.declared.Slot.{Slot}
-use Rattle.slots.specs.Slots.{nullSlot, noSlot}
 use Rattle.decide.specs.declared.Scalars.{Scalars}
 use Rattle.decide.specs.declared.PeerBars.{PeerBars}
 use Rattle.decide.specs.declared.Decided.{Decided}
 use Rattle.decide.specs.Scalars.{nobody, unknownBar, mayBe}
 use Rattle.decide.specs.Bars.{unknownBars}
-use Rattle.replica.specs.declared.Window.{Window}
+use Rattle.window.specs.declared.Window.{Window}
+use Rattle.window.specs.Window.{putSlot, noSlots}
 use Rattle.replica.specs.declared.Replica.{Replica}
 use Rattle.replica.specs.declared.Made.{Made}
 
@@ -32,20 +30,6 @@ number sc i = sc .start + i
 -- "The log end is start plus the slots present."
 abbrev pub logEnd : Replica → ℕ
 logEnd r = r .sc .start + r .window .len
-
-abbrev pub slotAt : Window → ℕ → Slot
-slotAt w i = getD (w .slots) i noSlot
-
-abbrev pub putSlot : Window → ℕ → Slot → Window
-putSlot w i s = record { len = w .len; slots = set (w .slots) i s }
-
--- "filling in null instances if needed": null slots up to n places; each is written null first, whatever stood there
-unfoldable pub grown : Window → ℕ → Window
-grown w n = pick (leb n (w .len)) w (record { len = n; slots = over (λ i s. nullSlot) noSlot (w .len) n (w .slots) })
-
--- f of each slot from one place up to another
-abbrev pub sweep : (ℕ → Slot → Slot) → ℕ → ℕ → Window → Window
-sweep f from to w = record { len = w .len; slots = over f noSlot from to (w .slots) }
 
 -- 01: "Fresh: no leader, ballots and wal_offset 0, all bars at start, no slots. peer_accept_max and each other member's peer accept bar are
 -- 2^64 - 1; self has no entry until its first PrepareReply."
@@ -66,9 +50,6 @@ freshScalars id group start options =
       «wal_offset» = 0;
       «peer_accept_max» = unknownBar;
     }
-
-abbrev pub noSlots : Window
-noSlots = record { len = 0; slots = replicate 64 nullSlot }
 
 abbrev pub fresh : ℕ → ℕ → ℕ → ℕ → Replica
 fresh id group start options =

@@ -17,7 +17,7 @@ use Rattle.batch.specs.declared.KeyTable.{KeyTable}
 use Rattle.batch.specs.Batches.{isBatch, makeBatch}
 use Rattle.batch.specs.Keys.{refresh, overfull}
 use Rattle.actions.specs.Actions.{Act}
-use Rattle.actions.specs.Laws.{write-then}
+use Rattle.actions.specs.Laws.{write-then, length-write}
 use Rattle.slots.specs.declared.LeaderBook.{LeaderBook}
 use Rattle.slots.specs.declared.Slot.{Slot}
 use Rattle.slots.specs.Slots.{noSlot, newBook, appendedSlot, enteredSlot}
@@ -32,18 +32,23 @@ use Rattle.decide.specs.Laws.{fallen-is}
 use Rattle.decide.specs.Decide.{awaitsPrepare, decideVote, isCounted, decideCount}
 use Rattle.decide.specs.PrepareReply.{withVoted}
 use Rattle.decide.specs.Weighing.{unmoved, weighedCount, weighedVote, weighed}
-use Rattle.replica.specs.declared.Window.{Window}
+use Rattle.window.specs.declared.Window.{Window}
+use Rattle.window.specs.declared.Placed.{Placed}
+use Rattle.window.specs.Window.{slotAt, putSlot, sweep, extended}
+use Rattle.window.specs.Acts.{enterActs}
+use Rattle.window.specs.Sweeps.{Ranged, SweptIn, PromisesIn}
+use Rattle.window.specs.Bounded.{extendedIn}
+use Rattle.window.specs.BoundedLaws.{extended-in}
+use Rattle.window.specs.RangeLaws.{swept-in, promised-in}
 use Rattle.replica.specs.declared.Replica.{Replica}
-use Rattle.replica.specs.declared.Placed.{Placed}
-use Rattle.replica.specs.Record.{Outcome, kept, noting, withWindow, place, number, slotAt, putSlot, sweep}
-use Rattle.replica.specs.Messages.{appended, appendActs, enterActs, countedOn, votedOn, repliedOn, inRange, orKept, replyOn, cleanReply, prepareReplyStep}
+use Rattle.replica.specs.Record.{Outcome, kept, noting, withWindow, place, number}
+use Rattle.replica.specs.Messages.{appended, appendActs, countedOn, votedOn, repliedOn, inRange, orKept, replyOn, cleanReply, prepareReplyStep}
 use Rattle.replica.specs.Step.{Told}
 use Rattle.replica.specs.Admit.{fromPeer}
 use Rattle.replica.specs.AdmitLaws.{gate-peer, peer-facts}
-use Rattle.replica.specs.Sweeps.{extended, Ranged, Swept, Promises}
-use Rattle.replica.specs.SweepLaws.{extended-appended, appended-within}
 use Rattle.replica.specs.ActingLaws.{acted, noting-passes, noting-full, noting-acts}
 use Rattle.replica.specs.Replying.{ReplyFits, PlacesFit, sweptTo, placed, carried, replyAt}
+use Rattle.replica.specs.AppendLaws.{extended-appended, appended-within}
 
 -- one test on both sides
 pick-meet : {A B C : Type 0} (f : A → C) (g : B → C) (t : Bool) {x y : A} {a b : B} → (t ≡ true → f x ≡ g a) → (t ≡ false → f y ≡ g b)
@@ -216,14 +221,14 @@ module _ (r : Replica) (peer : ℕ) (m : Reply) (i j : ℕ) (w : Window) (fallen
     pub here : i < length (r .window .slots)
 
   pub weighs-read : {book : LeaderBook} → book ≡ newBook (number (r .sc) j) (slotAt (r .window) j .leader .endprep)
-      → w ≡ extended (r .window) (i + 1) (r .sc .«bal_prep_sent») book → fallen ≡ withFallen (r .sc) (r .bars) peer (m .bar)
+      → w ≡ extendedIn (r .window) (i + 1) (r .sc .«bal_prep_sent») book → i < 64 → fallen ≡ withFallen (r .sc) (r .bars) peer (m .bar)
       → g ≡ weighed fallen (slotAt w i) (slotAt w j) (eqb i j) peer m → i < length (r .window .slots) → Weighs
-  weighs-read b e f h l =
-      record { window = e ∙ ap (extended (r .window) (i + 1) (r .sc .«bal_prep_sent»)) b ∙ extended-appended r j i; scalars = f; weighs = h; here = l }
+  weighs-read {book} b e s f h l =
+      record { window = e ∙ extended-in (r .window) (i + 1) (r .sc .«bal_prep_sent») book (omega arith) ∙ ap (extended (r .window) (i + 1) (r .sc .«bal_prep_sent»)) b ∙ extended-appended r j i; scalars = f; weighs = h; here = l }
 
   module _ (e : Weighs) where
     -- the sweep into Accept has room
-    pub enter-fits : {room mid : List ℕ} {k to : ℕ} → PlacesFit r room i j → to ≡ sweptTo w j g → k ≡ 0 + (i + 1 - r .window .len) → 3456 ≤ length mid
+    enter-fits : {room mid : List ℕ} {k to : ℕ} → PlacesFit r room i j → to ≡ sweptTo w j g → k ≡ 0 + (i + 1 - r .window .len) → 3456 ≤ length mid
         → Ranged j to k mid (r .sc .start)
     enter-fits {room} {mid} {k} {to} f t n l =
         let a : w .len ≤ 64 = rw (e .window) (appended-within r j i (f .within) (f .place)) in
@@ -245,15 +250,18 @@ module _ (r : Replica) (peer : ℕ) (m : Reply) (i j : ℕ) (w : Window) (fallen
     pub reply-full : {b : Bool} → g .answer ≡ 0 → b ≡ (g .noted && overfull (r .keys) (g .slot .batch)) → b ≡ true → replyAt r peer m i j ≡ kept 7 r
     reply-full a f h = reply-carried ∙ carried-full r _ w i j m _ g a (sym f ∙ h)
 
-    pub reply-told : {room mid after : List ℕ} {k to : ℕ} {p : Placed} {b : Bool} {bars : PeerBars} {keys : KeyTable} → g .answer ≡ 0
+    pub reply-told : {room mid after : List ℕ} {k to : ℕ} {p : Placed} {b : Bool} {bars : PeerBars} {keys : KeyTable} → PlacesFit r room i j → g .answer ≡ 0
         → b ≡ (g .noted && overfull (r .keys) (g .slot .batch)) → b ≡ false
-        → Promises (r .window .len) (i + 1) 0 (r .sc .start) (r .sc .«bal_prep_sent») room k mid → to ≡ sweptTo w j g
-        → Swept (λ n s. enteredSlot s) (λ n s. enterActs (r .sc .start + n) (m .ballot) s) j to k (placed w i j g) mid p after
+        → PromisesIn (r .window .len) (i + 1) 0 (r .sc .start) (r .sc .«bal_prep_sent») room k mid → to ≡ sweptTo w j g
+        → SweptIn (λ n s. enteredSlot s) (λ n s. enterActs (r .sc .start + n) (m .ballot) s) j to k (r .sc .start) (placed w i j g) mid p after
         → bars ≡ withBar (r .sc) (r .bars) peer (m .bar) → keys ≡ pick (g .noted) (refresh (m .slot) (g .slot .batch) (r .keys)) (r .keys)
         → Told (replyAt r peer m i j)
         (record { answer = 0; count = p .next; replica = record { sc = g .sc; bars = bars; window = p .window; keys = keys; reads = r .reads } }) room after
-    reply-told {room} {mid} {after} {k} {to} {p} {b} {bars} {keys} a f h x t y u v =
+    reply-told {room} {mid} {after} {k} {to} {p} {b} {bars} {keys} fits a f h x′ t y′ u v =
         let first = appendActs r i in
+        let x = promised-in (r .sc .start) (r .sc .«bal_prep_sent») (r .window .len) (i + 1) 0 room k mid x′ (omega (arith, fits .place)) (omega (arith, fits .place)) (fits .long) (fits .low) in
+        let l : length mid ≡ length room = ap length (x .written) ∙ length-write room 0 first (omega (arith, x .many, fits .place, fits .long)) in
+        let y = swept-in y′ (enter-fits fits t (x .next) (omega (arith, fits .long))) in
         let second = enteredActs r (withBar (r .sc) (r .bars) peer (m .bar)) w i j m first g in
         let z = rw t at y in
         let n : k ≡ 0 + length first = omega (arith, x .next, x .many) in

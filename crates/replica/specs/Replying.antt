@@ -12,10 +12,12 @@ use Rattle.slots.specs.Slots.{enteredSlot}
 use Rattle.decide.specs.declared.PeerBars.{PeerBars}
 use Rattle.decide.specs.declared.Reply.{Reply}
 use Rattle.decide.specs.declared.Weighed.{Weighed}
-use Rattle.replica.specs.declared.Window.{Window}
+use Rattle.window.specs.declared.Window.{Window}
+use Rattle.window.specs.Window.{slotAt, putSlot, sweep}
+use Rattle.window.specs.Acts.{enterActs}
 use Rattle.replica.specs.declared.Replica.{Replica}
-use Rattle.replica.specs.Record.{Outcome, kept, slotAt, putSlot, sweep}
-use Rattle.replica.specs.Messages.{tabled, appended, appendActs, enterActs, repliedOn, orKept}
+use Rattle.replica.specs.Record.{Outcome, kept}
+use Rattle.replica.specs.Messages.{tabled, appended, appendActs, repliedOn, orKept}
 
 -- what a function here may count on: a fit record's numbers, room for 192 actions, and a slot from start on
 pub record ReplyFits (r : Replica) (room : List ℕ) (m : Reply) : Type 0 where

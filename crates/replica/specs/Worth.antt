@@ -9,11 +9,12 @@ use Rattle.tally.specs.Open.{fitReads}
 use Rattle.actions.specs.Actions.{Act, writeActions}
 use Rattle.slots.specs.Slots.{fitSlot}
 use Rattle.decide.specs.Scalars.{fitScalars}
+use Rattle.window.specs.Window.{grown, fitSlots, lastUsed}
 use Rattle.replica.specs.declared.Replica.{Replica}
 use Rattle.replica.specs.declared.Handled.{Handled}
-use Rattle.replica.specs.Record.{Outcome, kept, newReplica, grown}
-use Rattle.replica.specs.Fit.{fit, fitSlots}
-use Rattle.replica.specs.Messages.{prepareOn, prepareStep, lastUsed}
+use Rattle.replica.specs.Record.{Outcome, kept, newReplica}
+use Rattle.replica.specs.Fit.{fit}
+use Rattle.replica.specs.Messages.{prepareOn, prepareStep}
 use Rattle.replica.specs.Step.{Call, callPrepare, step, handled, Told}
 
 -- what a program gives of each call

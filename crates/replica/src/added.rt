@@ -6,9 +6,9 @@ ghost use Rattle.replica.specs.Step.{Told};
 ghost use Rattle.replica.specs.AddedFits.{ExecFits};
 use super::Handled;
 use super::Replica;
-use super::Window;
 use batch::Batch;
 use batch::make;
+use window::Window;
 
 impl Replica {
     // A batch is offered to the leader: it takes the slot at the log end.

@@ -1,13 +1,12 @@
 // 001, leadership.rs: a timeout (become_a_leader) and CommitNotice (advance_commit_bar).
 ghost use lib.ListN.{length};
 ghost use Rattle.members.specs.declared.NextBallot.the-variants.{Ballot};
+ghost use Rattle.window.specs.Sweeps.{Ranged};
 ghost use Rattle.replica.specs.Leadership.{leadOn, stepUp, timeoutStep, markOn, commitNoticeStep};
 ghost use Rattle.replica.specs.Step.{Told};
-ghost use Rattle.replica.specs.Sweeps.{Ranged};
 ghost use Rattle.replica.specs.ElectionFits.{StepFits, LeadFits};
 use super::Handled;
 use super::Replica;
-use super::Window;
 use actions::Action;
 use actions::Ask;
 use actions::put_action;
@@ -15,6 +14,7 @@ use decide::unknown_bars;
 use members::NextBallot;
 use members::next_ballot;
 use slots::new_book;
+use window::Window;
 
 impl Replica {
     // A timeout of the timer for `source`.

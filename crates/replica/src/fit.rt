@@ -1,44 +1,17 @@
 // A new replica, the fit test (answer 1), and what every call is tested for first.
 ghost use mathlib.Core.Path.{_≡_};
-ghost use Prim.Native.Nat.{_≤_};
-ghost use Rattle.replica.specs.Record.{noSlots, newReplica};
-ghost use Rattle.replica.specs.Fit.{fitSlots, fit, ready};
+ghost use Rattle.replica.specs.Record.{newReplica};
+ghost use Rattle.replica.specs.Fit.{fit, ready};
 ghost use Rattle.replica.specs.Admit.{fromMember, fromPeer, fromOwner};
 use super::Handled;
 use super::Made;
 use super::Replica;
-use super::Window;
 use batch::empty_table;
 use decide::PeerBars;
 use decide::Scalars;
 use decide::may_be;
-use slots::null_slot;
 use tally::open_reads::no_reads;
-
-// No slots.
-fn no_slots() -> Window
-    ensures { λ r. ⌜ r ≡ noSlots ⌝ }
-{
-    let null = null_slot();
-    Window {
-        len: 0,
-        slots: [null; 64],
-    }
-}
-
-// Whether every slot in use is fit.
-fn fit_slots(w: Window, group: u64) -> bool
-    requires { ⌜ w .len ≤ 64 ⌝ }
-    ensures { λ r. ⌜ r ≡ fitSlots group w ⌝ }
-{
-    for i in 0..w.len {
-        let s = w.slots[i];
-        if !s.is_fit(group) {
-            return false;
-        }
-    }
-    true
-}
+use window::no_slots;
 
 impl Replica {
     // A new replica: answer 10 and the all-zero record where its numbers are outside 01's.
@@ -121,7 +94,7 @@ impl Replica {
         if !sc.is_fit(w.len) {
             return false;
         }
-        if !fit_slots(w, self.sc.group) {
+        if !w.is_fit(self.sc.group) {
             return false;
         }
         if 256 < self.keys.count {

@@ -6,21 +6,13 @@ mod fit;
 mod messages;
 mod reads_calls;
 mod replies;
-mod searches;
 mod settle;
-mod sweeps;
 
 use batch::KeyTable;
 use decide::PeerBars;
 use decide::Scalars;
-use slots::Slot;
 use tally::Reads;
-
-// The log from the start slot on: the first `len` slots are present.
-pub struct Window {
-    pub len: usize,
-    pub slots: [Slot; 64],
-}
+use window::Window;
 
 pub struct Replica {
     pub sc: Scalars,
@@ -55,16 +47,4 @@ pub struct Done {
     pub entry: Entry,
     pub slot: u64,
     pub size: u64,
-}
-
-// A slot after one turn of a loop, and the place of the next action.
-pub(crate) struct Turned {
-    pub next: usize,
-    pub slot: Slot,
-}
-
-// A window after a loop, and the place of the next action.
-pub(crate) struct Placed {
-    pub next: usize,
-    pub window: Window,
 }

@@ -6,14 +6,14 @@ ghost use Rattle.replica.specs.Step.{Told};
 ghost use Rattle.replica.specs.MessageFits.{WroteDown, PrepareFits};
 use super::Handled;
 use super::Replica;
-use super::Window;
-use super::searches::larger_of;
 use actions::Action;
 use actions::put_action;
 use batch::Batch;
 use batch::make;
 use decide::Scalars;
 use slots::ReplicaBook;
+use window::Window;
+use window::larger_of;
 
 // check_leader: a leader that hears a larger ballot first reports that it is none. The place of the next action.
 fn put_down(room: &mut [u64], sc: Scalars, ballot: u64) -> usize

@@ -5,12 +5,12 @@ ghost use Rattle.replica.specs.Step.{Told};
 ghost use Rattle.replica.specs.Replying.{replyAt, ReplyFits, PlacesFit};
 use super::Handled;
 use super::Replica;
-use super::searches::chosen;
-use super::sweeps::put_promises;
 use batch::make;
 use decide::Reply;
 use decide::bad_vote;
 use slots::new_book;
+use window::chosen;
+use window::put_promises;
 
 impl Replica {
     // A PrepareReply from a peer.

@@ -4,9 +4,9 @@ ghost use Rattle.replica.specs.Step.{Told};
 ghost use Rattle.replica.specs.Acting.{SettleFits};
 use super::Handled;
 use super::Replica;
-use super::Window;
 use actions::say;
 use decide::Decided;
+use window::Window;
 
 impl Replica {
     // What was decided for the slot at place i of a window.

@@ -2,10 +2,10 @@
 use crate::text::line;
 use crate::text::number_of;
 use batch::Batch;
-use replica::Window;
 use slots::LeaderBook;
 use slots::ReplicaBook;
 use slots::Slot;
+use window::Window;
 
 // A leader's bookkeeping: all 0 where it is absent.
 fn leader_row(b: LeaderBook) -> [u64; 6] {

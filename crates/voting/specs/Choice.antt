@@ -13,12 +13,12 @@ use Rattle.slots.specs.declared.Vote.{Vote}
 use Rattle.slots.specs.declared.Slot.{Slot}
 use Rattle.slots.specs.Slots.{newBook, redoneSlot, withState, withLeader, withExternal, committed, executed, preparing}
 use Rattle.decide.specs.declared.Reply.{Reply}
+use Rattle.window.specs.Window.{firstOpen}
 use Rattle.replica.specs.declared.Replica.{Replica}
 use Rattle.replica.specs.declared.Done.{Done}
 use Rattle.replica.specs.declared.Entry.the-variants.{PrepareBal}
 use Rattle.replica.specs.Record.{place}
 use Rattle.replica.specs.Messages.{cleanReply}
-use Rattle.replica.specs.Leadership.{firstOpen}
 use Rattle.replica.specs.Step.{Call, callPrepareReply, callTimeout, callLogged, step}
 use Rattle.laws.specs.OfFit.{fit-facts}
 use Rattle.laws.specs.Windows.{size, grown-long, grown-most}

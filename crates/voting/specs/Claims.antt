@@ -10,7 +10,7 @@ use Rattle.decide.specs.declared.Scalars.{Scalars}
 use Rattle.decide.specs.declared.PeerBars.{PeerBars}
 use Rattle.decide.specs.Scalars.{withNumbers}
 use Rattle.decide.specs.Bars.{withFallen}
-use Rattle.replica.specs.declared.Window.{Window}
+use Rattle.window.specs.declared.Window.{Window}
 use Rattle.replica.specs.declared.Replica.{Replica}
 use Rattle.replica.specs.Record.{Outcome}
 use Rattle.replica.specs.Quorumread.{openReadStep, readReplyStep}

@@ -20,12 +20,14 @@ use Rattle.decide.specs.declared.Reply.{Reply}
 use Rattle.decide.specs.Scalars.{leads, isPeer, fitScalars}
 use Rattle.decide.specs.Bars.{notAbove, leastMajority, withBar, withFallen}
 use Rattle.decide.specs.Decide.{decideAccept, decideAcceptReply, decideVote, decideCount, decidePromised, decideAccepted, decideOffer}
+use Rattle.window.specs.Window.{slotAt, grown, fitSlots, lastUsed, firstOpen, lastOpen}
+use Rattle.window.specs.Acts.{redoActs}
 use Rattle.replica.specs.declared.Replica.{Replica}
 use Rattle.replica.specs.declared.Entry.the-variants.{PrepareBal, AcceptData}
-use Rattle.replica.specs.Record.{kept, newReplica, slotAt, grown, noting, settled, number}
-use Rattle.replica.specs.Fit.{ready, fit, fitSlots}
-use Rattle.replica.specs.Messages.{prepareOn, prepareStep, lastUsed, appended, countedOn, votedOn, repliedOn, replyOn, prepareReplyStep, acceptStep, acceptReplyStep, clean}
-use Rattle.replica.specs.Leadership.{firstOpen, lastOpen, leadOn, stepUp, timeoutStep, redoActs}
+use Rattle.replica.specs.Record.{kept, newReplica, noting, settled, number}
+use Rattle.replica.specs.Fit.{ready, fit}
+use Rattle.replica.specs.Messages.{prepareOn, prepareStep, appended, countedOn, votedOn, repliedOn, replyOn, prepareReplyStep, acceptStep, acceptReplyStep, clean}
+use Rattle.replica.specs.Leadership.{leadOn, stepUp, timeoutStep}
 use Rattle.replica.specs.Durability.{preparedDone, movedAccept, acceptedDone, passOn, passStop, committedDone, loggedOn, loggedStep}
 use Rattle.replica.specs.Added.{offerStep}
 use Rattle.replica.specs.Step.{Call, callPrepare, callPrepareReply, callAccept, callAcceptReply, callTimeout, callLogged, callOffer, step}

@@ -16,11 +16,13 @@ use Rattle.slots.specs.declared.Slot.{Slot}
 use Rattle.slots.specs.Slots.{preparing, accepting, enteredSlot, withState}
 use Rattle.decide.specs.declared.Reply.{Reply}
 use Rattle.decide.specs.Decide.{proposal}
-use Rattle.replica.specs.declared.Window.{Window}
+use Rattle.window.specs.declared.Window.{Window}
+use Rattle.window.specs.Window.{slotAt}
+use Rattle.window.specs.Acts.{promise, enterActs}
 use Rattle.replica.specs.declared.Replica.{Replica}
 use Rattle.replica.specs.declared.Done.{Done}
-use Rattle.replica.specs.Record.{place, number, slotAt}
-use Rattle.replica.specs.Messages.{promise, cleanReply, enterActs}
+use Rattle.replica.specs.Record.{place, number}
+use Rattle.replica.specs.Messages.{cleanReply}
 use Rattle.replica.specs.Step.{callPrepareReply, callLogged, step}
 use Rattle.laws.specs.OfFit.{fit-facts}
 use Rattle.laws.specs.Windows.{appended-most}

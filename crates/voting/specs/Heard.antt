@@ -14,11 +14,12 @@ use Rattle.slots.specs.declared.Slot.{Slot}
 use Rattle.decide.specs.declared.Reply.{Reply}
 use Rattle.decide.specs.Scalars.{leads}
 use Rattle.decide.specs.Decide.{awaitsPrepare}
+use Rattle.window.specs.Window.{slotAt}
 use Rattle.replica.specs.declared.Replica.{Replica}
 use Rattle.replica.specs.declared.Done.{Done}
 use Rattle.replica.specs.declared.Entry.{Entry}
 use Rattle.replica.specs.declared.Entry.the-variants.{PrepareBal, AcceptData, CommitSlot as CommitEntry}
-use Rattle.replica.specs.Record.{place, slotAt}
+use Rattle.replica.specs.Record.{place}
 use Rattle.replica.specs.Messages.{cleanReply}
 use Rattle.replica.specs.Step.{Call, callPrepare, callPrepareReply, callAccept, callAcceptReply, callCommitNotice, callTimeout, callLogged, callOffer, callExecuted, callOpenRead, callReadReply}
 use Rattle.laws.specs.ByPlace.{atPlace}

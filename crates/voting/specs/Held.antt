@@ -19,12 +19,13 @@ use Rattle.decide.specs.declared.Scalars.{Scalars}
 use Rattle.decide.specs.declared.Reply.{Reply}
 use Rattle.decide.specs.Scalars.{leads, followed, withBallots}
 use Rattle.decide.specs.Decide.{decideOffer, awaitsPrepare}
-use Rattle.replica.specs.declared.Window.{Window}
+use Rattle.window.specs.declared.Window.{Window}
+use Rattle.window.specs.Window.{slotAt, putSlot}
 use Rattle.replica.specs.declared.Replica.{Replica}
 use Rattle.replica.specs.declared.Done.{Done}
 use Rattle.replica.specs.declared.Entry.{Entry}
 use Rattle.replica.specs.declared.Entry.the-variants.{PrepareBal, AcceptData, CommitSlot as CommitEntry}
-use Rattle.replica.specs.Record.{place, slotAt, putSlot}
+use Rattle.replica.specs.Record.{place}
 use Rattle.replica.specs.Messages.{cleanReply, prepareBook}
 use Rattle.replica.specs.Durability.{entryNumber, passStop, loggedOn}
 use Rattle.replica.specs.Added.{movedExec}

@@ -11,10 +11,11 @@ use Rattle.slots.specs.Slots.{acknowledgedSlot, committedSlot}
 use Rattle.decide.specs.declared.Reply.{Reply}
 use Rattle.decide.specs.Scalars.{leads, quorum}
 use Rattle.decide.specs.PrepareReply.{ownReply}
+use Rattle.window.specs.Window.{putSlot}
 use Rattle.replica.specs.declared.Replica.{Replica}
 use Rattle.replica.specs.declared.Done.{Done}
 use Rattle.replica.specs.declared.Entry.the-variants.{PrepareBal, AcceptData, CommitSlot as CommitEntry}
-use Rattle.replica.specs.Record.{Outcome, place, putSlot}
+use Rattle.replica.specs.Record.{Outcome, place}
 use Rattle.replica.specs.Messages.{orKept}
 use Rattle.replica.specs.Durability.{movedAccept, loggedOn, loggedStep}
 use Rattle.laws.specs.Leaves.{done, orKept-ways}

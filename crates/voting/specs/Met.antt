@@ -13,12 +13,13 @@ use Rattle.slots.specs.Slots.{fitSlot}
 use Rattle.decide.specs.Bars.{notAbove, leastMajority, withBar, withFallen}
 use Rattle.decide.specs.Decide.{decideAccept, decideVote, decideCount}
 use Rattle.decide.specs.Scalars.{fitScalars}
+use Rattle.window.specs.Window.{grown, fitSlots, firstOpen, lastOpen}
 use Rattle.replica.specs.declared.Replica.{Replica}
 use Rattle.replica.specs.declared.Entry.the-variants.{PrepareBal}
-use Rattle.replica.specs.Record.{newReplica, grown, noting, settled}
-use Rattle.replica.specs.Fit.{fit, fitSlots}
+use Rattle.replica.specs.Record.{newReplica, noting, settled}
+use Rattle.replica.specs.Fit.{fit}
 use Rattle.replica.specs.Messages.{appended, countedOn, votedOn, repliedOn, replyOn, prepareReplyStep, acceptStep}
-use Rattle.replica.specs.Leadership.{firstOpen, lastOpen, leadOn, stepUp, timeoutStep}
+use Rattle.replica.specs.Leadership.{leadOn, stepUp, timeoutStep}
 use Rattle.replica.specs.Durability.{preparedDone, loggedOn, loggedStep}
 use Rattle.replica.specs.Step.{Call, callPrepareReply, callAccept, callTimeout, callLogged}
 use Rattle.laws.specs.ByPlace.{atPlace}

@@ -24,11 +24,13 @@ use Rattle.decide.specs.declared.Scalars.{Scalars}
 use Rattle.decide.specs.declared.Decided.{Decided}
 use Rattle.decide.specs.Scalars.{isPeer, stepsDown, followed}
 use Rattle.decide.specs.Decide.{decideAccept, decideOffer, proposal}
-use Rattle.replica.specs.declared.Window.{Window}
+use Rattle.window.specs.declared.Window.{Window}
+use Rattle.window.specs.Window.{slotAt, grown, lastUsed}
+use Rattle.window.specs.Acts.{promise}
 use Rattle.replica.specs.declared.Replica.{Replica}
-use Rattle.replica.specs.Record.{Outcome, kept, noting, settled, place, number, slotAt, grown}
+use Rattle.replica.specs.Record.{Outcome, kept, noting, settled, place, number}
 use Rattle.replica.specs.Fit.{ready}
-use Rattle.replica.specs.Messages.{clean, promise, downActs, lastUsed, prepareTop, prepareOn, prepareStep, acceptOn, acceptStep}
+use Rattle.replica.specs.Messages.{clean, downActs, prepareTop, prepareOn, prepareStep, acceptOn, acceptStep}
 use Rattle.replica.specs.Durability.{loggedOn}
 use Rattle.replica.specs.Added.{movedExec}
 use Rattle.replica.specs.Step.{Call, callPrepare, callPrepareReply, callAccept, callAcceptReply, callCommitNotice, callTimeout, callLogged, callOffer, callExecuted, callOpenRead, callReadReply, step}

@@ -15,11 +15,12 @@ use Rattle.slots.specs.declared.Vote.{Vote}
 use Rattle.slots.specs.declared.Slot.{Slot}
 use Rattle.slots.specs.Slots.{committedSlot, acknowledgedSlot, committed, loggedSlot, accepting}
 use Rattle.decide.specs.Scalars.{leads, quorum}
-use Rattle.replica.specs.declared.Window.{Window}
+use Rattle.window.specs.declared.Window.{Window}
+use Rattle.window.specs.Window.{slotAt, putSlot}
 use Rattle.replica.specs.declared.Replica.{Replica}
 use Rattle.replica.specs.declared.Done.{Done}
 use Rattle.replica.specs.declared.Entry.the-variants.{PrepareBal, AcceptData, CommitSlot as CommitEntry}
-use Rattle.replica.specs.Record.{place, slotAt, putSlot}
+use Rattle.replica.specs.Record.{place}
 use Rattle.replica.specs.Fit.{fit}
 use Rattle.replica.specs.Durability.{loggedOn}
 use Rattle.replica.specs.Step.{callAcceptReply, callLogged, step}

@@ -21,14 +21,14 @@ use Rattle.decide.specs.declared.Scalars.{Scalars}
 use Rattle.decide.specs.declared.Reply.{Reply}
 use Rattle.decide.specs.Scalars.{leads, isPeer, followed, withBallots, steppedUp, mayBe}
 use Rattle.decide.specs.Decide.{decideOffer}
-use Rattle.replica.specs.declared.Window.{Window}
+use Rattle.window.specs.declared.Window.{Window}
+use Rattle.window.specs.Window.{slotAt, putSlot, sweep, grown, noSlots, firstOpen}
 use Rattle.replica.specs.declared.Replica.{Replica}
 use Rattle.replica.specs.declared.Made.{Made}
 use Rattle.replica.specs.declared.Done.{Done}
-use Rattle.replica.specs.Record.{place, slotAt, putSlot, sweep, grown, newReplica, fresh, zeroReplica, noSlots}
+use Rattle.replica.specs.Record.{place, newReplica, fresh, zeroReplica}
 use Rattle.replica.specs.Fit.{fit, ready}
 use Rattle.replica.specs.Messages.{clean, cleanReply, prepareBook}
-use Rattle.replica.specs.Leadership.{firstOpen}
 use Rattle.replica.specs.Durability.{passStop, loggedOn}
 use Rattle.replica.specs.Added.{movedExec}
 use Rattle.replica.specs.Step.{Call, callPrepare, callPrepareReply, callAccept, callAcceptReply, callCommitNotice, callTimeout, callLogged, callOffer, callExecuted, callOpenRead, callReadReply, step}

@@ -12,10 +12,12 @@ use Rattle.decide.specs.declared.Reply.{Reply}
 use Rattle.decide.specs.Scalars.{withPrepared}
 use Rattle.decide.specs.Bars.{withFallen}
 use Rattle.decide.specs.Decide.{awaitsPrepare}
-use Rattle.replica.specs.declared.Window.{Window}
+use Rattle.window.specs.declared.Window.{Window}
+use Rattle.window.specs.Window.{slotAt, sweep}
+use Rattle.window.specs.Acts.{enterActs}
 use Rattle.replica.specs.declared.Replica.{Replica}
-use Rattle.replica.specs.Record.{Outcome, place, number, slotAt, sweep}
-use Rattle.replica.specs.Messages.{appendActs, enterActs, replyOn, cleanReply, prepareReplyStep}
+use Rattle.replica.specs.Record.{Outcome, place, number}
+use Rattle.replica.specs.Messages.{appendActs, replyOn, cleanReply, prepareReplyStep}
 use Rattle.laws.specs.Leaves.{done}
 use Rattle.laws.specs.OfScalars.{fallen-ways}
 use Rattle.laws.specs.WaysMessages.{KeepsFor}

@@ -14,10 +14,11 @@ use Rattle.slots.specs.declared.Slot.{Slot}
 use Rattle.decide.specs.declared.Scalars.{Scalars}
 use Rattle.decide.specs.Scalars.{leads}
 use Rattle.decide.specs.Decide.{sentVote}
+use Rattle.window.specs.Window.{slotAt}
 use Rattle.replica.specs.declared.Replica.{Replica}
 use Rattle.replica.specs.declared.Done.{Done}
 use Rattle.replica.specs.declared.Entry.the-variants.{PrepareBal, AcceptData, CommitSlot as CommitEntry}
-use Rattle.replica.specs.Record.{place, slotAt}
+use Rattle.replica.specs.Record.{place}
 use Rattle.replica.specs.Durability.{loggedOn}
 use Rattle.replica.specs.Step.{callLogged, step}
 use Rattle.laws.specs.OfFit.{fit-facts}

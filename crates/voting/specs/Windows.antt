@@ -3,8 +3,8 @@ use mathlib.Core.Path.{_≡_, _∙_}
 use Prim.Native.Nat.{ℕ}
 use lib.ListN.{length}
 use Rattle.slots.specs.declared.Slot.{Slot}
-use Rattle.replica.specs.declared.Window.{Window}
-use Rattle.replica.specs.Record.{putSlot, grown, sweep}
+use Rattle.window.specs.declared.Window.{Window}
+use Rattle.window.specs.Window.{putSlot, grown, sweep}
 use Rattle.laws.specs.Windows.{put-long, sweep-long, grown-long}
 
 abbrev pub Whole : Window → Type 0

@@ -36,8 +36,9 @@ returns-2 : tie.Need-returns-2
 returns-2 c =
     let s = c .before .before .before .before in
     let e = s .before .before .before .before in
-    let a = e .before .before .before .before .args in
-    told (committed-passes (a .self) (a .slot) _ (e .if1 .left) (s .stop .ensures)) (c .before .before .pass-on .ensures)
+    let b = e .before .before .before .before in
+    let a = b .args in
+    told (committed-passes (a .self) (a .slot) _ (b .pre .bars) (e .if1 .left) (s .stop .ensures)) (c .before .before .pass-on .ensures)
 
 pub committed-done-spec : {M : Type 1} → statement M
 committed-done-spec =

@@ -1,4 +1,5 @@
 use native.Mathlib.Omega.{arith}
+use Rattle.window.specs.RangeLaws.{swept-in}
 use Rattle.replica.specs.ElectionLaws.{lead-told}
 use borrow.Author.Needs.{needs}
 use Rattle.replica.proofs.Replica.lead_on.Statement.{statement}
@@ -51,7 +52,7 @@ returns c =
     let s = a .before .before .before in
     let g = s .args in
     lead-told (g .self) (g .w) (g .trigger) (g .endprep) (g .ballot) (s .pre) (a .put-action .ensures) (b .put-action2 .ensures)
-    (q .before .before .new-book .ensures) (q .redo-range .ensures) (z .put-action3 .ensures) (c .before .stepped-up .ensures) (c .unknown-bars .ensures)
+    (q .before .before .new-book .ensures) (swept-in (q .redo-range .ensures) (omega (arith, s .pre, b .put-action2 .kept .0, a .put-action .kept .0))) (z .put-action3 .ensures) (c .before .stepped-up .ensures) (c .unknown-bars .ensures)
 
 pub lead-on-spec : {M : Type 1} → statement M
 lead-on-spec =

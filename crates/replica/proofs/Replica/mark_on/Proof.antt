@@ -1,3 +1,4 @@
+use Rattle.window.specs.RangeLaws.{swept-in}
 use Rattle.replica.specs.ElectionLaws.{mark-told}
 use borrow.Author.Needs.{needs}
 use Rattle.replica.proofs.Replica.mark_on.Statement.{statement}
@@ -12,8 +13,9 @@ same-length c = search needs
 returns : tie.Need-returns
 returns c =
     let m = c .before .before .before in
-    let a = m .before .before .before .args in
-    mark-told (a .self) (a .w) (a .from) (a .stop) (m .mark-range .ensures)
+    let s = m .before .before .before in
+    let a = s .args in
+    mark-told (a .self) (a .w) (a .from) (a .stop) (swept-in (m .mark-range .ensures) (s .pre))
 
 pub mark-on-spec : {M : Type 1} → statement M
 mark-on-spec = tie.close (tie.spec mark-range-requires same-length returns)

@@ -28,8 +28,9 @@ returns-2 : tie.Need-returns-2
 returns-2 c =
     let s = c .before .before in
     let e = s .before .before .before in
-    let a = e .before .before .before .args in
-    moved-on (a .self) (a .slot) _ _ _ (e .if1 .left) (s .stop .ensures) refl (c .with-bars .ensures)
+    let b = e .before .before .before in
+    let a = b .args in
+    moved-on (a .self) (a .slot) _ _ _ (b .pre) (e .if1 .left) (s .stop .ensures) refl (c .with-bars .ensures)
 
 pub moved-accept-spec : {M : Type 1} → statement M
 moved-accept-spec =

@@ -23,8 +23,9 @@ with-bars-requires c κs = search needs
 
 returns : tie.Need-returns
 returns c =
-    let a = c .before .before .before .before .before .before .args in
-    exec-moved (a .self) (a .w) _ _ (c .before .before .executed-to .ensures) (c .with-bars .ensures)
+    let s = c .before .before .before .before .before .before in
+    let a = s .args in
+    exec-moved (a .self) (a .w) _ _ (s .pre) (c .before .before .executed-to .ensures) (c .with-bars .ensures)
 
 pub moved-exec-spec : {M : Type 1} → statement M
 moved-exec-spec =

@@ -1,4 +1,6 @@
 use mathlib.Core.Path.{refl}
+use native.Mathlib.Omega.{arith}
+use Rattle.window.specs.RangeLaws.{swept-in}
 use Rattle.replica.specs.CompletionLaws.{passed-told}
 use borrow.Author.Needs.{needs}
 use Rattle.replica.proofs.Replica.pass_on.Statement.{statement}
@@ -26,8 +28,9 @@ returns : tie.Need-returns
 returns c =
     let n = c .before .before .before .before in
     let p = n .before .before .before .before in
-    let a = p .before .before .before .before .before .before .before .args in
-    passed-told (a .self) (a .from) (a .stop) _ _ _ _ _ _ _ _ refl refl (p .pass-range .ensures) (n .put-notice .ensures) (c .with-bars .ensures)
+    let s = p .before .before .before .before .before .before .before in
+    let a = s .args in
+    passed-told (a .self) (a .from) (a .stop) _ _ _ _ _ _ _ _ refl refl (swept-in (p .pass-range .ensures) (omega (arith, s .pre))) (n .put-notice .ensures) (c .with-bars .ensures)
 
 pub pass-on-spec : {M : Type 1} → statement M
 pass-on-spec =

@@ -1,7 +1,9 @@
 use mathlib.Core.Path.{_≡_, _∙_, ap}
-use Prim.Native.Nat.{_≤_, _<_}
+use Prim.Native.Nat.{_+_, _≤_, _<_}
 use native.Mathlib.Omega.{arith}
 use Rattle.base.specs.Pick.{larger}
+use Rattle.window.specs.BoundedLaws.{lastUsed-in, above-in}
+use Rattle.window.specs.RangeLaws.{swept-in}
 use Rattle.replica.specs.Messages.{prepareTop}
 use Rattle.replica.specs.ActingLaws.{refuse}
 use Rattle.replica.specs.MessageLaws.{top-within, prepare-above, prepare-told}
@@ -12,10 +14,12 @@ use Rattle.replica.proofs.Replica.prepare_on.Tie as tie
 top : (c : tie.After-larger-of) → (c .before .before .before .args .from ≤ c .larger-of .result) × (c .larger-of .result < 64)
 top c =
     let s = c .before .before .before in
-    top-within (s .args .w) (s .args .from) _ _ (c .before .last-used .ensures) (c .larger-of .ensures) (s .pre .within) (s .pre .inside)
+    top-within (s .args .w) (s .args .from) _ _ (c .before .last-used .ensures ∙ lastUsed-in (s .args .w) (s .pre .within)) (c .larger-of .ensures) (s .pre .within) (s .pre .inside)
 
 covered : (c : tie.After-larger-of) → c .larger-of .result ≡ prepareTop (c .before .before .before .args .w) (c .before .before .before .args .from)
-covered c = c .larger-of .ensures ∙ ap (larger (c .before .before .before .args .from)) (c .before .last-used .ensures)
+covered c =
+    let s = c .before .before .before in
+    c .larger-of .ensures ∙ ap (larger (s .args .from)) (c .before .last-used .ensures ∙ lastUsed-in (s .args .w) (s .pre .within))
 
 last-used-requires : tie.Need-last-used-requires
 last-used-requires c κs = search needs
@@ -29,9 +33,7 @@ add-end c =
     omega arith
 
 any-above-requires : tie.Need-any-above-requires
-any-above-requires c κs =
-    let t = top c in
-    omega arith
+any-above-requires c κs = search needs
 
 kept-requires : tie.Need-kept-requires
 kept-requires c κs = search needs
@@ -40,8 +42,9 @@ returns : tie.Need-returns
 returns c =
     let l = c .before .before .before in
     let a = l .before .before .before .args in
+    let t = top l in
     refuse 6 (a .self) (c .kept .ensures)
-    (prepare-above (a .self) (a .w) (a .from) (a .peer) (a .ballot) _ (covered l) _ (c .before .before .any-above .ensures) (c .before .if1 .taken))
+    (prepare-above (a .self) (a .w) (a .from) (a .peer) (a .ballot) _ (covered l) _ (c .before .before .any-above .ensures ∙ above-in (a .w) (a .from) (l .larger-of .result + 1) (a .ballot) (omega (arith, t))) (c .before .if1 .taken))
 
 add-trigger : tie.Need-add-trigger
 add-trigger c = search needs
@@ -55,11 +58,7 @@ put-down-requires : tie.Need-put-down-requires
 put-down-requires c κs = search needs
 
 prepare-range-requires : tie.Need-prepare-range-requires
-prepare-range-requires c κs =
-    let l = c .before .before .before .before .before .before .before .before .before .before in
-    let t = top l in
-    let d = c .before .before .before .put-down .ensures in
-    omega arith
+prepare-range-requires c κs = search needs
 
 followed-requires : tie.Need-followed-requires
 followed-requires c κs = search needs
@@ -73,8 +72,11 @@ returns-2 c =
     let k = s .before .before .before .before in
     let o = k .before .before .before .before .before in
     let l = o .before .before in
-    let a = l .before .before .before .args in
-    prepare-told (a .self) (a .w) (a .from) (a .peer) (a .ballot) _ (covered l) _ (o .before .any-above .ensures) (o .if1 .left) (k .put-down .ensures) (s .prepare-range .ensures)
+    let b = l .before .before .before in
+    let a = b .args in
+    let t = top l in
+    prepare-told (a .self) (a .w) (a .from) (a .peer) (a .ballot) _ (covered l) _ (o .before .any-above .ensures ∙ above-in (a .w) (a .from) (l .larger-of .result + 1) (a .ballot) (omega (arith, t))) (o .if1 .left) (k .put-down .ensures)
+    (swept-in (s .prepare-range .ensures) (omega (arith, t, b .pre, k .put-down .ensures .few, k .put-down .kept .0)))
     (c .followed .ensures)
 
 pub prepare-on-spec : {M : Type 1} → statement M

@@ -1,5 +1,5 @@
 use borrow.Author.Tests.{not-true, not-false}
-use Rattle.replica.specs.Record.{slotAt}
+use Rattle.window.specs.Window.{slotAt}
 use Rattle.replica.specs.ActingLaws.{refuse, told}
 use Rattle.replica.specs.CompletionLaws.{prepared-follows, prepared-unbooked, prepared-past, prepared-replies, own-fits}
 use borrow.Author.Needs.{needs}

@@ -2,7 +2,7 @@ use native.Mathlib.Omega.{arith}
 use mathlib.Core.Path.{_≡_, sym, _∙_}
 use lib.ListN.{length, length-map}
 use Rattle.replica.specs.ActingLaws.{refuse}
-use Rattle.replica.specs.ReplyLaws.{Weighs, weighs-read, enter-fits, reply-refused, reply-full, reply-told}
+use Rattle.replica.specs.ReplyLaws.{Weighs, weighs-read, reply-refused, reply-full, reply-told}
 use borrow.Author.Needs.{needs}
 use Rattle.replica.proofs.Replica.reply_at.Statement.{statement}
 use Rattle.replica.proofs.Replica.reply_at.Tie as tie
@@ -28,7 +28,7 @@ weighs c =
     let w = c .before .before .before .before in
     let s = entry c in
     let a = s .args in
-    weighs-read (a .self) (a .peer) (a .m) (a .i) (a .j) _ _ _ (w .before .new-book .ensures) (w .append .ensures) (c .before .with-fallen .ensures) (c .weigh .ensures)
+    weighs-read (a .self) (a .peer) (a .m) (a .i) (a .j) _ _ _ (w .before .new-book .ensures) (w .append .ensures) (s .pre .place) (c .before .with-fallen .ensures) (c .weigh .ensures)
     (omega (arith, wide s, s .pre))
 
 mul-known : tie.Need-mul-known
@@ -92,7 +92,7 @@ returns-2 c =
     (reply-full (a .self) (a .peer) (a .m) (a .i) (a .j) _ _ _ (weighs k) (e .if1 .left) (t .too-many .ensures) (c .before .if2 .taken))
 
 put-promises-requires : tie.Need-put-promises-requires
-put-promises-requires c κs = omega (arith, entry (weighing (c .before)) .pre)
+put-promises-requires c κs = search needs
 
 mul-next : tie.Need-mul-next
 mul-next c = omega (arith, entry (weighing (c .before .before .before .before)) .pre)
@@ -110,12 +110,7 @@ chosen-requires : tie.Need-chosen-requires
 chosen-requires c κs = search needs
 
 enter-range-requires : tie.Need-enter-range-requires
-enter-range-requires c κs =
-    let p = c .before .before .before .before .before in
-    let k = p .before .before .before .before .before .before .before .before .before in
-    let s = entry k in
-    let a = s .args in
-    enter-fits (a .self) (a .peer) (a .m) (a .i) (a .j) _ _ _ (weighs k) (s .pre) (c .before .chosen .ensures) (p .put-promises .ensures .next) (omega arith)
+enter-range-requires c κs = search needs
 
 with-bar-requires : tie.Need-with-bar-requires
 with-bar-requires c κs = search needs
@@ -134,7 +129,7 @@ returns-3 c =
     let e = t .before .before .before .before in
     let k = e .before .before in
     let a = entry k .args in
-    reply-told (a .self) (a .peer) (a .m) (a .i) (a .j) _ _ _ (weighs k) (e .if1 .left) (t .too-many .ensures) (p .before .before .if2 .left) (p .put-promises .ensures)
+    reply-told (a .self) (a .peer) (a .m) (a .i) (a .j) _ _ _ (weighs k) (entry k .pre) (e .if1 .left) (t .too-many .ensures) (p .before .before .if2 .left) (p .put-promises .ensures)
     (r .before .before .chosen .ensures) (r .enter-range .ensures) (c .before .with-bar .ensures) (c .note-if .ensures)
 
 pub reply-at-spec : {M : Type 1} → statement M

@@ -1,5 +1,7 @@
+use mathlib.Core.Path.{_∙_}
 use native.Mathlib.Omega.{arith}
-use Rattle.replica.specs.SweepLaws.{lastOpen-within}
+use Rattle.window.specs.Laws.{lastOpen-within}
+use Rattle.window.specs.BoundedLaws.{lastOpen-in}
 use Rattle.replica.specs.ActingLaws.{refuse, told}
 use Rattle.replica.specs.ElectionLaws.{found-within, step-below, step-full, step-on, grown-fits}
 use borrow.Author.Needs.{needs}
@@ -12,7 +14,7 @@ stop-requires c κs = search needs
 add-trigger : tie.Need-add-trigger
 add-trigger c =
     let a = c .before .before .before .before .before in
-    omega (arith, a .pre, found-within (a .args .self) _ (c .before .stop .ensures))
+    omega (arith, a .pre, found-within (a .args .self) (a .pre .within) _ (c .before .stop .ensures))
 
 kept-requires : tie.Need-kept-requires
 kept-requires c κs = search needs
@@ -20,8 +22,9 @@ kept-requires c κs = search needs
 returns : tie.Need-returns
 returns c =
     let s = c .before .before .before .before in
-    let a = s .before .before .before .before .args in
-    refuse 8 (a .self) (c .kept .ensures) (step-below (a .self) _ (s .stop .ensures) (a .ballot) (c .before .if1 .taken))
+    let b = s .before .before .before .before in
+    let a = b .args in
+    refuse 8 (a .self) (c .kept .ensures) (step-below (a .self) (b .pre .within) _ (s .stop .ensures) (a .ballot) (c .before .if1 .taken))
 
 kept-requires-2 : tie.Need-kept-requires-2
 kept-requires-2 c κs = search needs
@@ -30,8 +33,9 @@ returns-2 : tie.Need-returns-2
 returns-2 c =
     let e = c .before .before in
     let s = e .before .before .before in
-    let a = s .before .before .before .before .args in
-    refuse 5 (a .self) (c .kept2 .ensures) (step-full (a .self) _ (s .stop .ensures) (a .ballot) (e .if1 .left) (c .before .if2 .taken))
+    let b = s .before .before .before .before in
+    let a = b .args in
+    refuse 5 (a .self) (c .kept2 .ensures) (step-full (a .self) (b .pre .within) _ (s .stop .ensures) (a .ballot) (e .if1 .left) (c .before .if2 .taken))
 
 last-open-requires : tie.Need-last-open-requires
 last-open-requires c κs = search needs
@@ -40,7 +44,7 @@ add-endprep : tie.Need-add-endprep
 add-endprep c =
     let s = c .before .before .before .before .before .before in
     let a = s .before .before .before .before in
-    omega (arith, a .pre, c .before .last-open .ensures, lastOpen-within (a .args .self .window))
+    omega (arith, a .pre, c .before .last-open .ensures ∙ lastOpen-in (a .args .self .window) (a .pre .within), lastOpen-within (a .args .self .window))
 
 add-size : tie.Need-add-size
 add-size c = search needs
@@ -67,9 +71,10 @@ returns-3 c =
     let l = g .before .before in
     let e = l .before .before in
     let s = e .before .before .before in
-    let a = s .before .before .before .before .args in
+    let b = s .before .before .before .before in
+    let a = b .args in
     told
-    (step-on (a .self) _ (s .stop .ensures) (a .ballot) (e .if1 .left) (omega (arith, l .before .if2 .left)) (l .last-open .ensures) (g .grow-to .ensures))
+    (step-on (a .self) (b .pre .within) _ (s .stop .ensures) (a .ballot) (e .if1 .left) (omega (arith, l .before .if2 .left)) (l .last-open .ensures) (g .grow-to .ensures))
     (o .lead-on .ensures)
 
 pub step-up-spec : {M : Type 1} → statement M

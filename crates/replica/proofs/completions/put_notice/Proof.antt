@@ -1,7 +1,7 @@
 use Rattle.base.specs.Pick.{refuted, granted}
 use Rattle.actions.specs.declared.Action.the-variants.{CommitNotice}
 use Rattle.actions.specs.Actions.{bare}
-use Rattle.replica.specs.SweepLaws.{put-one}
+use Rattle.window.specs.Laws.{put-one}
 use Rattle.replica.specs.CompletionLaws.{notice-still, notice-none, notice-one}
 use borrow.Author.Needs.{needs}
 use Rattle.replica.proofs.completions.put_notice.Statement.{statement}

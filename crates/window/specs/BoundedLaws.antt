@@ -1,0 +1,79 @@
+-- Growth and the searches, where their numbers are places of the window and where they are not.
+use mathlib.Core.Path.{_≡_}
+use mathlib.Core.Bool.{false}
+use Prim.Native.Nat.{ℕ, _≤_, _<_}
+use lib.Dec.{ltb, eqb}
+use borrow.Author.Tests.{le-leb, lt-leb}
+use Rattle.base.specs.Find.{any}
+use Rattle.base.specs.Scan.{scan}
+use Rattle.slots.specs.declared.LeaderBook.{LeaderBook}
+use Rattle.window.specs.declared.Window.{Window}
+use Rattle.window.specs.Window.{slotAt, grown, extended, fitSlots, lastUsed, lastOpen, passes}
+use Rattle.window.specs.Bounded.{grownIn, extendedIn, lastUsedIn, lastOpenIn, anyAboveIn, stopIn, executedIn, fitIn}
+
+module _ (w : Window) (n : ℕ) where
+  pub grown-in : n ≤ 64 → grownIn w n ≡ grown w n
+  unfolding grownIn
+  grown-in h = rw (le-leb n 64 h)
+
+  pub grown-out : 64 < n → grownIn w n ≡ w
+  unfolding grownIn
+  grown-out h = rw (lt-leb n 64 h)
+
+  pub extended-in : (ballot : ℕ) (book : LeaderBook) → n ≤ 64 → extendedIn w n ballot book ≡ extended w n ballot book
+  unfolding extendedIn
+  extended-in ballot book h = rw (le-leb n 64 h)
+
+  pub extended-out : (ballot : ℕ) (book : LeaderBook) → 64 < n → extendedIn w n ballot book ≡ w
+  unfolding extendedIn
+  extended-out ballot book h = rw (lt-leb n 64 h)
+
+module _ (w : Window) where
+  pub lastUsed-in : w .len ≤ 64 → lastUsedIn w ≡ lastUsed w
+  unfolding lastUsedIn
+  lastUsed-in h = rw (le-leb (w .len) 64 h)
+
+  pub lastUsed-out : 64 < w .len → lastUsedIn w ≡ 0
+  unfolding lastUsedIn
+  lastUsed-out h = rw (lt-leb (w .len) 64 h)
+
+  pub lastOpen-in : w .len ≤ 64 → lastOpenIn w ≡ lastOpen w
+  unfolding lastOpenIn
+  lastOpen-in h = rw (le-leb (w .len) 64 h)
+
+  pub lastOpen-out : 64 < w .len → lastOpenIn w ≡ w .len
+  unfolding lastOpenIn
+  lastOpen-out h = rw (lt-leb (w .len) 64 h)
+
+  pub fit-in : (group : ℕ) → w .len ≤ 64 → fitIn group w ≡ fitSlots group w
+  unfolding fitIn
+  fit-in group h = rw (le-leb (w .len) 64 h)
+
+  pub fit-out : (group : ℕ) → 64 < w .len → fitIn group w ≡ false
+  unfolding fitIn
+  fit-out group h = rw (lt-leb (w .len) 64 h)
+
+module _ (w : Window) (from to : ℕ) where
+  pub above-in : (ballot : ℕ) → to ≤ 64 → anyAboveIn w ballot from to ≡ any (λ i. ltb ballot (slotAt w i .ballot)) from to
+  unfolding anyAboveIn
+  above-in ballot h = rw (le-leb to 64 h)
+
+  pub above-out : (ballot : ℕ) → 64 < to → anyAboveIn w ballot from to ≡ false
+  unfolding anyAboveIn
+  above-out ballot h = rw (lt-leb to 64 h)
+
+  pub stop-in : (ballot status : ℕ) → to ≤ 64 → stopIn w ballot status from to ≡ scan (passes w ballot status) from to
+  unfolding stopIn
+  stop-in ballot status h = rw (le-leb to 64 h)
+
+  pub stop-out : (ballot status : ℕ) → 64 < to → stopIn w ballot status from to ≡ from
+  unfolding stopIn
+  stop-out ballot status h = rw (lt-leb to 64 h)
+
+  pub executed-in : to ≤ 64 → executedIn w from to ≡ scan (λ i. eqb (slotAt w i .status) 4) from to
+  unfolding executedIn
+  executed-in h = rw (le-leb to 64 h)
+
+  pub executed-out : 64 < to → executedIn w from to ≡ from
+  unfolding executedIn
+  executed-out h = rw (lt-leb to 64 h)
