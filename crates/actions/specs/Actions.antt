@@ -1,7 +1,7 @@
 -- Actions and the room they are written into. 01: "An action is 18 numbers: kind, member (255 = all), slot, trigger, endprep, ballot,
 -- voted ballot, batch id, bar, key count, eight keys. A read answer has read id, place, tag and value in the four after the member.
 -- What the source's message or entry lacks is 0; room past the last action stays."
-use mathlib.Core.Bool.{Bool, true, false, _||_}
+use mathlib.Core.Bool.{_||_}
 use mathlib.Core.List.{List, [], _∷_, _++_}
 use Prim.Native.Nat.{ℕ, _+_, _*_}
 use lib.Dec.{ltb, leb}

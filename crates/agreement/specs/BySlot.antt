@@ -10,7 +10,7 @@ use Rattle.base.specs.Pick.{pick, decide, tests}
 use Rattle.slots.specs.declared.Slot.{Slot}
 use Rattle.slots.specs.Slots.{nullSlot}
 use Rattle.window.specs.declared.Window.{Window}
-use Rattle.laws.specs.ByPlace.{atPlace}
+use Rattle.window.specs.ByPlace.{atPlace}
 
 -- slot s of a log that begins at `start`: null below it and past its end
 unfoldable pub numbered : ℕ → Window → ℕ → Slot

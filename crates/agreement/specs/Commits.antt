@@ -17,10 +17,10 @@ use Rattle.actions.specs.declared.Action.the-variants.{AcceptData}
 use Rattle.actions.specs.Actions.{Act}
 use Rattle.slots.specs.Slots.{nullSlot, committed}
 use Rattle.window.specs.declared.Window.{Window}
+use Rattle.window.specs.ByPlace.{atPlace, at-present}
 use Rattle.replica.specs.declared.Replica.{Replica}
 use Rattle.replica.specs.Record.{Outcome, logEnd}
 use Rattle.replica.specs.Step.{Call, step}
-use Rattle.laws.specs.ByPlace.{atPlace, at-present}
 use Rattle.agreement.specs.BySlot.{numbered}
 use Rattle.agreement.specs.Theorem.{Group, Mark, World, slotOf, rises, markAt, marksOf, put, begin, May, Reach, begins, turn, acceptEntry, commitEntry}
 use Rattle.agreement.specs.Group.{framed, inv, each, rises-commit, commit-rises, marked-earlier, accept-sent}

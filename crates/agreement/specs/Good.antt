@@ -12,15 +12,16 @@ use Rattle.base.specs.Among.{_∈_, All}
 use Rattle.actions.specs.Actions.{Act}
 use Rattle.slots.specs.declared.Slot.{Slot}
 use Rattle.slots.specs.declared.Vote.{Vote}
+use Rattle.slots.specs.Slots.{nullSlot}
 use Rattle.decide.specs.declared.Scalars.{Scalars}
 use Rattle.decide.specs.Scalars.{leads}
 use Rattle.window.specs.declared.Window.{Window}
 use Rattle.window.specs.Window.{grown}
+use Rattle.window.specs.Places.{filled-long, filled-most}
+use Rattle.window.specs.ByPlace.{atPlace, grown-at}
 use Rattle.replica.specs.declared.Replica.{Replica}
 use Rattle.replica.specs.Record.{Outcome, kept as keptAs}
 use Rattle.replica.specs.Step.{Call}
-use Rattle.laws.specs.Windows.{grown-long, grown-most}
-use Rattle.laws.specs.ByPlace.{atPlace, grown-at}
 use Rattle.agreement.specs.BySlot.{numbered, numbered-at, by-place}
 use Rattle.agreement.specs.Theorem.{commitEntry}
 use Rattle.agreement.specs.Frame.{Cell, cell, View, view, Owns, Clean, ActOk, SlotStep, low, kept, Frame}
@@ -192,7 +193,7 @@ pub record Grew (w w′ : Window) : Type 0 where
   pub short : w′ .len ≤ 64
 
 pub grew : {sc : Scalars} (w : Window) → Good sc w → (n : ℕ) → n ≤ 64 → Grew w (grown w n)
-grew w g n h = record { each = λ i. grown-at w n i (omega (arith, g .wide)); wide = grown-long w n ∙ g .wide; short = grown-most w n 64 (g .short) h }
+grew w g n h = record { each = λ i. grown-at w n i (omega (arith, g .wide)); wide = filled-long nullSlot w n ∙ g .wide; short = filled-most nullSlot w n 64 (g .short) h }
 
 pub good-grew : {sc : Scalars} {w w′ : Window} → Good sc w → Grew w w′ → Good sc w′
 good-grew {sc} {w} {w′} g q =

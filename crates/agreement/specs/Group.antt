@@ -20,12 +20,12 @@ use Rattle.slots.specs.declared.Slot.{Slot}
 use Rattle.slots.specs.Slots.{committed}
 use Rattle.decide.specs.Scalars.{mayBe}
 use Rattle.window.specs.Window.{noSlots}
+use Rattle.window.specs.ByPlace.{at-past}
 use Rattle.replica.specs.declared.Replica.{Replica}
 use Rattle.replica.specs.declared.Made.{Made}
 use Rattle.replica.specs.Record.{Outcome, newReplica, fresh, logEnd}
 use Rattle.replica.specs.Messages.{clean}
 use Rattle.replica.specs.Step.{Call, callPrepare, callPrepareReply, callAccept, callAcceptReply, callCommitNotice, callTimeout, callLogged, callOffer, callExecuted, callOpenRead, callReadReply, step, received}
-use Rattle.laws.specs.ByPlace.{at-past}
 use Rattle.agreement.specs.BySlot.{by-place}
 use Rattle.agreement.specs.Theorem.{Group, Mark, World, slotOf, rises, markAt, marksOf, upd, put, begin, May, timer, offer, logged, executed, opened, replied, message, refused, Reach, begins, turn, ballots, NeverFalls, acceptEntry, commitEntry, Agreement, Theorem}
 use Rattle.agreement.specs.Frame.{View, view, Owns, Why, led, told, Wrote, Marked, ActOk, Frame}

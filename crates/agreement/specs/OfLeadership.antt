@@ -3,7 +3,7 @@ use mathlib.Core.Path.{_≡_, refl, sym, _∙_, subst}
 use mathlib.Core.Bool.{true, false}
 use mathlib.Core.List.{List, [], _∷_, _++_, List·Memᴰ·head}
 use mathlib.Core.Logic.{_⊎_, inl, inr}
-use Prim.Native.Nat.{ℕ, _+_, _-_, _≤_, _<_}
+use Prim.Native.Nat.{ℕ, _+_, _≤_, _<_}
 use native.Mathlib.Omega.{arith}
 use lib.Dec.{ltb, leb}
 use borrow.Author.Tests.{ltb-true, ltb-false, leb-true}
@@ -16,18 +16,18 @@ use Rattle.members.specs.Laws.{next-given}
 use Rattle.actions.specs.declared.Action.the-variants.{Prepare, Heartbeat, StatusUp}
 use Rattle.actions.specs.Actions.{Act, bare}
 use Rattle.slots.specs.declared.Slot.{Slot}
-use Rattle.slots.specs.Slots.{accepting, committed, executed, newBook, redoneSlot, markedSlot, withExternal}
+use Rattle.slots.specs.Slots.{accepting, committed, executed, newBook, redoneSlot, markedSlot, withExternal, nullSlot}
 use Rattle.decide.specs.declared.Scalars.{Scalars}
 use Rattle.decide.specs.Scalars.{steppedUp}
 use Rattle.window.specs.declared.Window.{Window}
 use Rattle.window.specs.Window.{slotAt, sweep, firstOpen, mayMark, markStop}
 use Rattle.window.specs.Acts.{redoActs, markActs}
+use Rattle.window.specs.Places.{filled-has, sweep-long}
+use Rattle.window.specs.ByPlace.{atPlace, at-here, at-present, sweep-cases, sweep-at}
 use Rattle.replica.specs.declared.Replica.{Replica}
 use Rattle.replica.specs.Record.{place, number}
 use Rattle.replica.specs.Leadership.{timeoutStep, commitNoticeStep}
 use Rattle.replica.specs.Step.{Call}
-use Rattle.laws.specs.Windows.{grown-has, sweep-long}
-use Rattle.laws.specs.ByPlace.{atPlace, at-here, at-present, sweep-cases, sweep-at}
 use Rattle.laws.specs.WaysLeadership.{leadWindow, leadTrigger, leadEnd, led, timeoutStep-ways, markWindow, markFrom, commitNoticeStep-ways}
 use Rattle.agreement.specs.Theorem.{commitEntry}
 use Rattle.agreement.specs.Frame.{Cell, cell, view, Marked, ActOk, kept, cleared}
@@ -209,4 +209,4 @@ pub commitNoticeStep-ok : (r : Replica) (c : Call) → GoodReplica r → (room p
 commitNoticeStep-ok r c g room peer ballot bar =
     commitNoticeStep-ways (Ok r c) r room peer ballot bar (λ n _. kept-ok r c g n)
     (λ f. noticed-ok r c (markWindow r bar) ballot (markFrom r) (place (r .sc) bar) g (grew (r .window) g (place (r .sc) bar) (omega (arith, f .high)))
-    (omega (arith, f .above)) (grown-has (r .window) (place (r .sc) bar)))
+    (omega (arith, f .above)) (filled-has nullSlot (r .window) (place (r .sc) bar)))

@@ -19,20 +19,20 @@ use Rattle.actions.specs.declared.Says.{Says}
 use Rattle.actions.specs.declared.Action.the-variants.{StatusDown}
 use Rattle.actions.specs.Actions.{Act, bare, saysActs}
 use Rattle.slots.specs.declared.Slot.{Slot}
-use Rattle.slots.specs.Slots.{preparedSlot, acceptedSlot, acknowledgedSlot, committedSlot}
+use Rattle.slots.specs.Slots.{preparedSlot, acceptedSlot, acknowledgedSlot, committedSlot, nullSlot}
 use Rattle.decide.specs.declared.Scalars.{Scalars}
 use Rattle.decide.specs.Scalars.{leads, followed, stepsDown}
 use Rattle.window.specs.declared.Window.{Window}
 use Rattle.window.specs.Window.{slotAt, putSlot, sweep}
 use Rattle.window.specs.Acts.{promise}
+use Rattle.window.specs.Places.{put-long, filled-has, sweep-long}
+use Rattle.window.specs.ByPlace.{atPlace, at-here, put-cases, put-at, sweep-cases}
 use Rattle.replica.specs.declared.Replica.{Replica}
 use Rattle.replica.specs.Record.{place, number}
 use Rattle.replica.specs.Messages.{clean, downActs, prepareTop, prepareBook, prepareStep, acceptStep, acceptReplyStep}
 use Rattle.replica.specs.Step.{Call, callAccept}
 use Rattle.laws.specs.OfScalars.{followed-fixed, followed-seen}
 use Rattle.laws.specs.OfDecide.{accepts}
-use Rattle.laws.specs.Windows.{put-long, grown-has, sweep-long}
-use Rattle.laws.specs.ByPlace.{atPlace, at-here, put-cases, put-at, sweep-cases}
 use Rattle.laws.specs.WaysMessages.{prepareWindow, prepareStep-ways, acceptWindow, acceptStep-ways, acceptReplyStep-ways}
 use Rattle.agreement.specs.Theorem.{acceptEntry, commitEntry}
 use Rattle.agreement.specs.Frame.{Cell, cell, View, view, Owns, Clean, Holds, told, Marked, ActOk, kept, wrote, cleared}
@@ -204,7 +204,7 @@ acceptStep-ok r c g room peer slot ballot b is =
     let q : Grew (r .window) w = grew (r .window) g (i + 1) (omega (arith, f .low, f .high)) in
     grew-ok (r .sc) (r .window) w c 0 (followed (r .sc) peer ballot) _ _ q
     (told-ok (r .sc) w c (good-grew g q) peer slot ballot i b is (owns-owns ballot peer (f .owned)) (f .peer-is .other) (f .seen) (omega (arith, f .low))
-    (omega (arith, grown-has (r .window) (i + 1)))))
+    (omega (arith, filled-has nullSlot (r .window) (i + 1)))))
 
 -- ── a slot whose status, ballot, batch and vote stay, with actions that are no entries ──
 abbrev pub Plain : List Act → Type 0

@@ -23,14 +23,15 @@ use Rattle.decide.specs.Bars.{withFallen}
 use Rattle.window.specs.declared.Window.{Window}
 use Rattle.window.specs.Window.{slotAt, putSlot, sweep}
 use Rattle.window.specs.Acts.{promise, enterActs}
+use Rattle.window.specs.Places.{put-long, sweep-long}
+use Rattle.window.specs.ByPlace.{atPlace, at-here, at-past, put-cases, sweep-cases, sweep-at}
 use Rattle.replica.specs.declared.Replica.{Replica}
 use Rattle.replica.specs.Record.{place, number}
-use Rattle.replica.specs.Messages.{appended, appendActs, replyOn, cleanReply, prepareReplyStep}
+use Rattle.replica.specs.Messages.{appended, appendActs, replyOn, cleanReply, prepareReplyStep, appendedAs}
 use Rattle.replica.specs.Step.{Call}
 use Rattle.laws.specs.OfScalars.{fallen-ways}
-use Rattle.laws.specs.Windows.{put-long, sweep-long, appendedAs, appended-long, appended-low, appended-has, appended-most}
-use Rattle.laws.specs.ByPlace.{atPlace, at-here, at-past, appended-cases, put-cases, sweep-cases, sweep-at}
 use Rattle.laws.specs.WaysReply.{adoptsVote, heardSlot, replyWindow, replySlot, heardWindow, triggerSlot, countedWindow, tabledSc, Answers, Heard, replyOn-ways, prepareReplyStep-ways, reply-place}
+use Rattle.laws.specs.Appended.{appended-long, appended-low, appended-has, appended-most, appended-cases}
 use Rattle.agreement.specs.Theorem.{acceptEntry}
 use Rattle.agreement.specs.Frame.{Cell, cell, View, view, Owns, Clean, Holds, led, ActOk, low, wrote}
 use Rattle.agreement.specs.Good.{GoodSlot, Good, StepOk, Ok, GoodReplica, Same, same-self, same-leads, heads-same, good-same, Turned, Like, like-self, good-like, step-like, Each, assemble, at-number, kept-ok}
@@ -61,7 +62,7 @@ turned-calm {v} {v′} {sc} {acts} {s} x y k (below a b) = record { good = k; st
 -- ── the parts ──
 module _ (r : Replica) (j i : ℕ) (g : GoodReplica r) (h : leads (r .sc) ≡ true) (b : i < 64) where
   -- the empty batch of a null slot is clean
-  new-good : GoodSlot (r .sc) (appendedAs r j i)
+  new-good : GoodSlot (r .sc) (appendedAs r j)
   unfolding makeBatch
   new-good = record { under = omega (arith, g .sent h); busy = λ _ _ _. g .sent h; tidy = refl; tidyVote = refl }
 

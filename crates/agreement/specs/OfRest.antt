@@ -19,7 +19,7 @@ use Rattle.actions.specs.declared.Action.the-variants.{Accept}
 use Rattle.actions.specs.Actions.{Act, act}
 use Rattle.slots.specs.declared.Vote.{Vote}
 use Rattle.slots.specs.declared.Slot.{Slot}
-use Rattle.slots.specs.Slots.{committed, loggedSlot, passedSlot, executedSlot, offeredSlot}
+use Rattle.slots.specs.Slots.{committed, loggedSlot, passedSlot, executedSlot, offeredSlot, nullSlot}
 use Rattle.decide.specs.declared.Scalars.{Scalars}
 use Rattle.decide.specs.Scalars.{leads, urgent, withOffset}
 use Rattle.decide.specs.Decide.{proposal, sentVote, decideOffer}
@@ -27,6 +27,8 @@ use Rattle.decide.specs.PrepareReply.{ownReply}
 use Rattle.window.specs.declared.Window.{Window}
 use Rattle.window.specs.Window.{slotAt, putSlot}
 use Rattle.window.specs.Acts.{passActs}
+use Rattle.window.specs.Places.{put-long, filled-has, sweep-long}
+use Rattle.window.specs.ByPlace.{atPlace, at-here, at-past, put-cases, put-at, sweep-cases}
 use Rattle.replica.specs.declared.Replica.{Replica}
 use Rattle.replica.specs.declared.Done.{Done}
 use Rattle.replica.specs.Record.{Outcome, place, number, logEnd}
@@ -35,8 +37,6 @@ use Rattle.replica.specs.Durability.{movedAccept, passStop, loggedOn, loggedSte
 use Rattle.replica.specs.Quorumread.{openReadStep, readAct, readReplyStep}
 use Rattle.replica.specs.Added.{offerStep, movedExec, executedStep}
 use Rattle.replica.specs.Step.{Call}
-use Rattle.laws.specs.Windows.{put-long, grown-has, sweep-long}
-use Rattle.laws.specs.ByPlace.{atPlace, at-here, at-past, put-cases, put-at, sweep-cases}
 use Rattle.laws.specs.WaysDurability.{logged, loggedAt, Logs, Completes, completes-silent, completes-more, completes-commit, completes-report, moved-ways, passFrom, passed, loggedStep-ways}
 use Rattle.laws.specs.WaysAdded.{offerWindow, offerStep-ways, executedWindow, executed, executedStep-ways, openReadStep-ways, readPlace, readAt, mergedRead, closed, readReplyStep-ways}
 use Rattle.agreement.specs.Theorem.{acceptEntry}
@@ -242,7 +242,7 @@ offerStep-ok r c g room b =
     let w : Window = offerWindow r in
     let q : Grew (r .window) w = grew (r .window) g (r .window .len + 1) (omega (arith, f .room)) in
     grew-ok (r .sc) (r .window) w c 0 (r .sc) _ _ q
-    (offered-ok (r .sc) w c (good-grew g q) (r .window .len) (logEnd r) (clean b) refl (omega (arith, grown-has (r .window) (r .window .len + 1)))
+    (offered-ok (r .sc) w c (good-grew g q) (r .window .len) (logEnd r) (clean b) refl (omega (arith, filled-has nullSlot (r .window) (r .window .len + 1)))
     (subst (λ (x : Slot). x .status < 2) (sym (q .each (r .window .len) ∙ at-past (r .window) (r .window .len) (omega arith))) (omega arith))
     (a .0) (r .sc .«bal_prepared») (z ∙ g .sent (a .0)) (clean-clean b)))
 

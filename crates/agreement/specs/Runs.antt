@@ -22,18 +22,18 @@ use Rattle.slots.specs.Slots.{fitSlot}
 use Rattle.decide.specs.Bars.{notAbove, leastMajority, withBar, withFallen}
 use Rattle.decide.specs.Decide.{decideAccept, decideAcceptReply, decideVote, decideCount, decidePromised, decideAccepted, decideOffer}
 use Rattle.decide.specs.Scalars.{fitScalars}
-use Rattle.window.specs.Window.{grown, fitSlots, lastUsed, firstOpen, lastOpen, markStop}
+use Rattle.window.specs.Window.{fitSlots, lastUsed, firstOpen, lastOpen, markStop, filled}
+use Rattle.window.specs.ByPlace.{atPlace}
 use Rattle.replica.specs.declared.Entry.{Entry}
 use Rattle.replica.specs.declared.Entry.the-variants.{PrepareBal, AcceptData, CommitSlot}
 use Rattle.replica.specs.Record.{newReplica, noting, settled}
 use Rattle.replica.specs.Fit.{fit}
-use Rattle.replica.specs.Messages.{prepareOn, prepareStep, appended, countedOn, votedOn, repliedOn, replyOn, prepareReplyStep, acceptStep, acceptReplyStep}
+use Rattle.replica.specs.Messages.{prepareOn, prepareStep, countedOn, votedOn, repliedOn, replyOn, prepareReplyStep, acceptStep, acceptReplyStep}
 use Rattle.replica.specs.Leadership.{leadOn, stepUp, timeoutStep, markOn, commitNoticeStep}
 use Rattle.replica.specs.Durability.{preparedDone, movedAccept, acceptedDone, passOn, passStop, committedDone, loggedOn, loggedStep}
 use Rattle.replica.specs.Quorumread.{openReadStep, repliedStep, readReplyStep}
 use Rattle.replica.specs.Added.{offerStep, movedExec, executedStep}
 use Rattle.replica.specs.Step.{Call, callAccept, callTimeout, callLogged, callOffer, step, received}
-use Rattle.laws.specs.ByPlace.{atPlace}
 use Rattle.agreement.specs.BySlot.{numbered}
 use Rattle.agreement.specs.Theorem.{Group, Mark, World, marksOf, upd, put, begin, timer, offer, logged, message, Reach, begins, turn, acceptEntry}
 
@@ -169,7 +169,7 @@ pub record ThreeMarked (w : World) : Type 0 where
   pub marks : w .marks ≡ mark 1 0 514 emptyBatch ∷ mark 1 1 514 seven ∷ mark 2 0 514 emptyBatch ∷ mark 2 1 514 seven ∷ mark 0 0 514 emptyBatch ∷ mark 0 1 514 seven ∷ []
 
 pub three-marked : ThreeMarked changedWorld
-unfolding play happen deliver changed three begin put upd marksOf atPlace numbered newReplica fit fitScalars fitSlots fitReads fitSlot grown noting settled prepareOn prepareStep lastUsed appended countedOn votedOn repliedOn replyOn prepareReplyStep acceptStep acceptReplyStep firstOpen lastOpen leadOn stepUp timeoutStep markOn markStop commitNoticeStep preparedDone movedAccept acceptedDone passOn passStop committedDone loggedOn loggedStep openReadStep repliedStep readReplyStep offerStep movedExec executedStep decideAccept decideAcceptReply decideVote decideCount decidePromised decideAccepted decideOffer notAbove leastMajority withBar withFallen has insert count countIn makeBatch noteKey noteKeys newKeys placeIn overfullIn merge findRead openRead closeRead putRead replyTo scan
+unfolding play happen deliver changed three begin put upd marksOf atPlace numbered newReplica fit fitScalars fitSlots fitReads fitSlot filled noting settled prepareOn prepareStep lastUsed countedOn votedOn repliedOn replyOn prepareReplyStep acceptStep acceptReplyStep firstOpen lastOpen leadOn stepUp timeoutStep markOn markStop commitNoticeStep preparedDone movedAccept acceptedDone passOn passStop committedDone loggedOn loggedStep openReadStep repliedStep readReplyStep offerStep movedExec executedStep decideAccept decideAcceptReply decideVote decideCount decidePromised decideAccepted decideOffer notAbove leastMajority withBar withFallen has insert count countIn makeBatch noteKey noteKeys newKeys placeIn overfullIn merge findRead openRead closeRead putRead replyTo scan
 three-marked = record { offered = further 6 (changedWorld .did 0) (List·Memᴰ·head refl); marks = refl }
 
 -- demand 3 makes no claim across ballots, and none holds: slot 1 is marked with two batches, and accept entries for it name two
@@ -179,7 +179,7 @@ pub record TwoBatches (w : World) : Type 0 where
   pub entry′ : acceptEntry 1 771 seven ∈ w .did 2
 
 pub two-batches : TwoBatches lateWorld
-unfolding play happen deliver late three begin put upd marksOf atPlace numbered newReplica fit fitScalars fitSlots fitReads fitSlot grown noting settled prepareOn prepareStep lastUsed appended countedOn votedOn repliedOn replyOn prepareReplyStep acceptStep acceptReplyStep firstOpen lastOpen leadOn stepUp timeoutStep markOn markStop commitNoticeStep preparedDone movedAccept acceptedDone passOn passStop committedDone loggedOn loggedStep openReadStep repliedStep readReplyStep offerStep movedExec executedStep decideAccept decideAcceptReply decideVote decideCount decidePromised decideAccepted decideOffer notAbove leastMajority withBar withFallen has insert count countIn makeBatch noteKey noteKeys newKeys placeIn overfullIn merge findRead openRead closeRead putRead replyTo scan
+unfolding play happen deliver late three begin put upd marksOf atPlace numbered newReplica fit fitScalars fitSlots fitReads fitSlot filled noting settled prepareOn prepareStep lastUsed countedOn votedOn repliedOn replyOn prepareReplyStep acceptStep acceptReplyStep firstOpen lastOpen leadOn stepUp timeoutStep markOn markStop commitNoticeStep preparedDone movedAccept acceptedDone passOn passStop committedDone loggedOn loggedStep openReadStep repliedStep readReplyStep offerStep movedExec executedStep decideAccept decideAcceptReply decideVote decideCount decidePromised decideAccepted decideOffer notAbove leastMajority withBar withFallen has insert count countIn makeBatch noteKey noteKeys newKeys placeIn overfullIn merge findRead openRead closeRead putRead replyTo scan
 two-batches = record { marks = refl; entry = further 9 (lateWorld .did 1) (List·Memᴰ·head refl); entry′ = further 11 (lateWorld .did 2) (List·Memᴰ·head refl) }
 
 -- so the theorem's last two parts are false where "at one ballot" is left out
@@ -202,7 +202,7 @@ eight = record { id = 8; count = 0; keys = replicate 8 0 }
 -- "none is made up": two Accepts for one slot and ballot that nobody sent are both taken
 pub made-up : (acceptEntry 0 257 seven ∈ step (newReplica 1 3 0 0 .replica) 3456 (callAccept 0 0 257 seven) .actions) ×
     (acceptEntry 0 257 eight ∈ step (newReplica 2 3 0 0 .replica) 3456 (callAccept 0 0 257 eight) .actions)
-unfolding newReplica fit fitScalars fitSlots fitReads fitSlot grown noting settled acceptStep decideAccept makeBatch noteKey noteKeys newKeys placeIn overfullIn scan
+unfolding newReplica fit fitScalars fitSlots fitReads fitSlot filled noting settled acceptStep decideAccept makeBatch noteKey noteKeys newKeys placeIn overfullIn scan
 made-up = (List·Memᴰ·head refl, List·Memᴰ·head refl)
 
 -- "ids distinct": two replicas with one id, here of a group of one, write entries for one slot and ballot that name two batches
@@ -217,5 +217,5 @@ unfoldable pub once : Batch → List Turn
 once b = times 0 0 ∷ logs 0 PrepareBal 0 40 ∷ offers 0 b ∷ []
 
 pub one-id : (acceptEntry 1 257 seven ∈ play (begin alone) (once seven) .did 0) × (acceptEntry 1 257 eight ∈ play (begin alone) (once eight) .did 0)
-unfolding play happen deliver once alone begin put upd marksOf atPlace numbered newReplica fit fitScalars fitSlots fitReads fitSlot grown noting settled prepareOn prepareStep lastUsed appended countedOn votedOn repliedOn replyOn prepareReplyStep acceptStep acceptReplyStep firstOpen lastOpen leadOn stepUp timeoutStep markOn markStop commitNoticeStep preparedDone movedAccept acceptedDone passOn passStop committedDone loggedOn loggedStep openReadStep repliedStep readReplyStep offerStep movedExec executedStep decideAccept decideAcceptReply decideVote decideCount decidePromised decideAccepted decideOffer notAbove leastMajority withBar withFallen has insert count countIn makeBatch noteKey noteKeys newKeys placeIn overfullIn merge findRead openRead closeRead putRead replyTo scan
+unfolding play happen deliver once alone begin put upd marksOf atPlace numbered newReplica fit fitScalars fitSlots fitReads fitSlot filled noting settled prepareOn prepareStep lastUsed countedOn votedOn repliedOn replyOn prepareReplyStep acceptStep acceptReplyStep firstOpen lastOpen leadOn stepUp timeoutStep markOn markStop commitNoticeStep preparedDone movedAccept acceptedDone passOn passStop committedDone loggedOn loggedStep openReadStep repliedStep readReplyStep offerStep movedExec executedStep decideAccept decideAcceptReply decideVote decideCount decidePromised decideAccepted decideOffer notAbove leastMajority withBar withFallen has insert count countIn makeBatch noteKey noteKeys newKeys placeIn overfullIn merge findRead openRead closeRead putRead replyTo scan
 one-id = (further 6 (play (begin alone) (once seven) .did 0) (List·Memᴰ·head refl), further 6 (play (begin alone) (once eight) .did 0) (List·Memᴰ·head refl))

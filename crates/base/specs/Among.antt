@@ -1,6 +1,4 @@
 -- Membership in a list, and a fact about every element of one.
-use mathlib.Core.Path.{_≡_}
-use mathlib.Core.Logic.{_⊎_}
 use mathlib.Core.List.{List, [], _∷_, _++_, List·Memᴰ, List·Memᴰ·head, List·Memᴰ·tail}
 
 infixl 20 _∈_

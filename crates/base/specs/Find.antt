@@ -7,7 +7,7 @@ use native.Mathlib.Nat.{le-refl, eq-or-lt-of-le}
 use native.Mathlib.Numerals.{add-one}
 use native.Mathlib.Omega.{arith}
 use lib.Dec.{leb}
-use borrow.Author.Tests.{not-true, not-false, le-leb, lt-leb}
+use borrow.Author.Tests.{not-true, not-false, le-leb, lt-leb, leb-true}
 use Rattle.base.specs.Pick.{pick, pick-same, pick-cases, clash}
 
 not-true-is : (t : Bool) → (t ≡ true → ⊥) → t ≡ false
@@ -86,3 +86,11 @@ module _ (p : ℕ → Bool) where
       (λ t h′. absurd (omega arith))
       (λ t h′. ⊎-elim (λ (e : i ≡ j). rw e t) (λ (u : i < j). last-past other j i h′ u) (eq-or-lt-of-le (omega arith)))
       h
+
+-- a test that fails throughout a range
+pub any-nowhere : (p : ℕ → Bool) (from to : ℕ) → ((i : ℕ) → from ≤ i → i < to → p i ≡ false) → any p from to ≡ false
+any-nowhere p from zero h = refl
+any-nowhere p from (suc j) h =
+    pick-cases (λ (x : Bool). x ≡ false) (leb from j)
+    (λ t. rw (h j (leb-true from j t) (le-refl (suc j))) (any-nowhere p from j (λ i l u. h i l (omega arith))))
+    (λ t. any-nowhere p from j (λ i l u. h i l (omega arith)))

@@ -1,21 +1,29 @@
 -- `gather g from to`: the lists g i for each i from `from` up to and without `to`, one after the other: what a loop writes.
-use mathlib.Core.Path.{_≡_, refl, _∙_}
+use mathlib.Core.Path.{_≡_, refl}
 use mathlib.Core.List.{List, [], _++_, List·Memᴰ·not-nil, List·Memᴰ·append-cases, Memᴰ·append-left, Memᴰ·append-right}
-use mathlib.Core.Logic.{_⊎_, inl, inr, ⊎-elim}
-use Prim.Native.Nat.{ℕ, zero, suc, _+_, _-_, _≤_, _<_}
+use mathlib.Core.Logic.{_⊎_, ⊎-elim}
+use Prim.Native.Nat.{ℕ, zero, suc, _+_, _-_, _*_, _≤_, _<_}
 use native.Mathlib.Nat.{le-refl, eq-or-lt-of-le}
 use native.Mathlib.Numerals.{add-one}
 use native.Mathlib.Omega.{arith}
 use lib.ListN.{length, length-append}
 use lib.Dec.{leb}
 use borrow.Author.Tests.{le-leb, lt-leb, leb-true}
-use Rattle.base.specs.Pick.{pick, pick-cases, tests}
+use Rattle.base.specs.Pick.{pick, pick-cases}
 use Rattle.base.specs.Among.{_∈_, All, all-append}
 
 module _ {B : Type 0} (g : ℕ → List B) where
   abbrev pub gather : ℕ → ℕ → List B
   gather from zero = []
   gather from (suc j) = pick (leb from j) (gather from j ++ g j) (gather from j)
+
+  -- where each is of two elements at most
+  pub length-gather-two : ((i : ℕ) → length (g i) ≤ 2) → (from to : ℕ) → length (gather from to) ≤ 2 * (to - from)
+  length-gather-two k from zero = omega arith
+  length-gather-two k from (suc j) =
+      pick-cases (λ (x : List B). length x ≤ 2 * (suc j - from)) (leb from j)
+      (λ t. omega (arith, leb-true, length-append (gather from j) (g j), length-gather-two k from j, k j))
+      (λ t. omega (arith, length-gather-two k from j))
 
   pub gather-none : (from to : ℕ) → to ≤ from → gather from to ≡ []
   gather-none from zero h = refl

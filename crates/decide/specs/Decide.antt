@@ -1,19 +1,17 @@
 -- What a call decides from the scalars and one slot.
 use mathlib.Core.Bool.{Bool, true, false, not, _&&_, _||_}
-use mathlib.Core.List.{List}
 use Prim.Native.Nat.{ℕ}
 use lib.Dec.{ltb, leb, eqb}
 use Rattle.base.specs.Pick.{pick}
 use Rattle.members.specs.Sets.{has, countIn}
 use Rattle.batch.specs.declared.Batch.{Batch}
-use Rattle.actions.specs.declared.Action.{Action}
 use Rattle.actions.specs.declared.Action.the-variants.{AcceptData, CommitSlot, PrepareReply, Accept, AcceptReply, StatusDown}
 use Rattle.actions.specs.declared.Says.the-variants.{Nothing, One, Two}
 use Rattle.actions.specs.declared.Proposal.{Proposal}
 use Rattle.actions.specs.Actions.{noKeys}
 use Rattle.slots.specs.declared.Vote.{Vote}
 use Rattle.slots.specs.declared.Slot.{Slot}
-use Rattle.slots.specs.Slots.{preparing, accepting, noVote, adoptedSlot, countedSlot, acceptedSlot, acknowledgedSlot, committedSlot, executedSlot, offeredSlot}
+use Rattle.slots.specs.Slots.{preparing, accepting, noVote, adoptedSlot, countedSlot, acceptedSlot, acknowledgedSlot, committedSlot, offeredSlot}
 use Rattle.decide.specs.declared.Scalars.{Scalars}
 use Rattle.decide.specs.declared.Decided.{Decided}
 use Rattle.decide.specs.Scalars.{leads, quorum, followed, stepsDown, withPrepared}

@@ -1,12 +1,12 @@
 -- The laws of moving bytes to the front.
-use mathlib.Core.Path.{_≡_, refl, sym, _∙_, ap}
+use mathlib.Core.Path.{_≡_, sym, _∙_, ap}
 use mathlib.Core.List.{List}
-use Prim.Native.Nat.{ℕ, zero, suc, _+_, _-_, _%_, _≤_, _<_}
+use Prim.Native.Nat.{ℕ, suc, _+_, _-_, _%_, _≤_, _<_}
 use native.Mathlib.Omega.{arith}
 use native.Mathlib.Numerals.{add-one}
 use native.Mathlib.Nat.{zero-add, add-comm}
 use lib.ListN.{length, length-drop, getD, set, drop}
-use lib.Seq.{paste, paste-zero, paste-suc, drop-paste, getD-drop}
+use lib.Seq.{paste, paste-suc, drop-paste, getD-drop}
 use borrow.Author.Tests.{le-leb, lt-leb}
 use Rattle.feed.specs.Feed.{fronted, Fronted}
 

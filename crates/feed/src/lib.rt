@@ -1,7 +1,6 @@
 // A trace as it comes in on standard input, and text as it goes out: what is read is added to the bytes of a record begun.
 ghost use Prim.Native.Nat.{_≤_};
-ghost use mathlib.Core.Path.{_≡_};
-ghost use lib.ListN.{length, drop};
+ghost use lib.ListN.{length};
 ghost use Rattle.feed.specs.Feed.{Fronted};
 use libc::STDERR_FILENO;
 use libc::STDIN_FILENO;

@@ -5,6 +5,7 @@ use Prim.Native.Nat.{ℕ}
 use lib.Dec.{ltb, leb}
 use lib.ListN.{getD, set}
 use Rattle.base.specs.Pick.{pick-both}
+use Rattle.base.specs.Over.{set-each}
 use Rattle.tally.specs.declared.Tally.{Tally}
 use Rattle.tally.specs.declared.Read.{Read}
 use Rattle.tally.specs.declared.Reads.{Reads}
@@ -13,7 +14,6 @@ use Rattle.tally.specs.ReadLaws.{put-count, put-others}
 use Rattle.replica.specs.declared.Replica.{Replica}
 use Rattle.replica.specs.Record.{Outcome}
 use Rattle.replica.specs.Step.{Call, callPrepare, callPrepareReply, callAccept, callAcceptReply, callCommitNotice, callTimeout, callLogged, callOffer, callExecuted, callOpenRead, callReadReply}
-use Rattle.laws.specs.OfBase.{set-each}
 use Rattle.laws.specs.WaysAdded.{readPlace, readAt, mergedRead, stayed}
 
 -- only the tally of the read with this id may have changed

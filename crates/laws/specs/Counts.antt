@@ -1,6 +1,6 @@
 -- How many actions each way of a call gives, and what a PrepareReply and a log completion leave as it was.
 use mathlib.Core.Path.{_≡_, refl, subst, _∙_}
-use mathlib.Core.Bool.{Bool, not, _&&_, _||_}
+use mathlib.Core.Bool.{not, _&&_, _||_}
 use mathlib.Core.List.{List, [], _∷_, _++_}
 use Prim.Native.Nat.{ℕ, _+_, _-_, _≤_, _<_}
 use native.Mathlib.Nat.{le-refl}
@@ -9,37 +9,37 @@ use lib.Dec.{ltb, leb, eqb}
 use lib.ListN.{length, length-append}
 use borrow.Author.Tests.{leb-true}
 use Rattle.base.specs.Pick.{pick, pick-cases, pick-both, and-left, tests}
-use Rattle.base.specs.Gather.{gather, length-gather}
-use Rattle.base.specs.Scan.{scan, scan-high, scan-below}
+use Rattle.base.specs.Gather.{gather, length-gather, length-gather-two}
+use Rattle.base.specs.Scan.{scan-high, scan-below}
 use Rattle.tally.specs.declared.Tally.{Tally}
 use Rattle.tally.specs.Open.{smaller}
 use Rattle.actions.specs.declared.Says.{Says}
 use Rattle.actions.specs.declared.Says.the-variants.{Nothing, One, Two}
 use Rattle.actions.specs.Actions.{Act, saysActs}
 use Rattle.slots.specs.declared.Slot.{Slot}
-use Rattle.slots.specs.Slots.{enteredSlot}
+use Rattle.slots.specs.Slots.{enteredSlot, nullSlot}
 use Rattle.decide.specs.declared.Scalars.{Scalars}
 use Rattle.decide.specs.declared.Reply.{Reply}
 use Rattle.decide.specs.Scalars.{leads, urgent, stepsDown}
 use Rattle.window.specs.declared.Window.{Window}
 use Rattle.window.specs.Window.{slotAt, firstOpen, mayMark, markStop}
 use Rattle.window.specs.Acts.{promise, enterActs, redoActs, markActs, passActs}
+use Rattle.window.specs.Places.{size, put-long, filled-has, filled-most, sweep-long}
 use Rattle.replica.specs.declared.Replica.{Replica}
 use Rattle.replica.specs.declared.Done.{Done}
 use Rattle.replica.specs.Record.{Outcome, withWindow, place, number, logEnd}
 use Rattle.replica.specs.Messages.{downActs, appendActs, replyOn}
 use Rattle.replica.specs.Durability.{movedAccept, noticeActs, passStop, loggedOn}
-use Rattle.laws.specs.OfBase.{length-gather-two}
 use Rattle.laws.specs.OfScalars.{Fixed, fixed-same, fixed-then, fallen-fixed}
 use Rattle.laws.specs.OfFit.{FitNumbers, fit-facts}
 use Rattle.laws.specs.OfDecide.{reports}
 use Rattle.laws.specs.Leaves.{done, put-back}
-use Rattle.laws.specs.Windows.{size, put-long, grown-has, grown-most, sweep-long, appended-long, appended-most, top-within}
 use Rattle.laws.specs.WaysMessages.{Keeps, Prepares, prepareWindow, prepareEnd}
 use Rattle.laws.specs.WaysReply.{replyWindow, heardWindow, countedWindow, tabledSc, replyOn-ways, reply-place}
 use Rattle.laws.specs.WaysLeadership.{Leads, leadWindow, leadFrom, markEnd, markFrom, markWindow}
 use Rattle.laws.specs.WaysDurability.{logged, withSlot, Completes, completes-silent, completes-more, completes-commit, completes-report, moved-ways, passFrom}
 use Rattle.laws.specs.WaysAdded.{readAt, readPlace, Asked}
+use Rattle.laws.specs.Appended.{appended-long, appended-most, top-within}
 
 -- ── how many actions ──
 pub says-few : (s : Says) (keys : List ℕ) → length (saysActs s keys) ≤ 2
@@ -75,8 +75,8 @@ pub prepared-few : (r : Replica) (peer trigger ballot : ℕ) → Prepares r peer
     → length (downActs (r .sc) ballot ++ gather (λ i. promise (number (r .sc) i) ballot ∷ []) (place (r .sc) trigger) (prepareEnd r trigger)) ≤ 191
 prepared-few r peer trigger ballot f =
     let n = fit-facts r (f .fits) .numbers in
-    let h = grown-has (r .window) (place (r .sc) trigger + 1) in
-    let m = grown-most (r .window) (place (r .sc) trigger + 1) 64 (n .window) (omega (arith, f .low, f .high)) in
+    let h = filled-has nullSlot (r .window) (place (r .sc) trigger + 1) in
+    let m = filled-most nullSlot (r .window) (place (r .sc) trigger + 1) 64 (n .window) (omega (arith, f .low, f .high)) in
     let t = top-within (prepareWindow r trigger) (place (r .sc) trigger) (omega arith) in
     omega (
       arith,
@@ -131,7 +131,7 @@ pub led-few : (r : Replica) (source ballot : ℕ) (a b c : Act) → Leads r sour
     → length (a ∷ b ∷ (gather (λ i. redoActs (number (r .sc) i) ballot (slotAt (leadWindow r) i)) (leadFrom r) (leadWindow r .len) ++ (c ∷ []))) ≤ 191
 led-few r source ballot a b c f =
     let g : ℕ → List Act = λ i. redoActs (number (r .sc) i) ballot (slotAt (leadWindow r) i) in
-    let m = grown-most (r .window) (firstOpen (r .window) + 1) 64 (fit-facts r (f .fits) .numbers .window) (omega (arith, f .room)) in
+    let m = filled-most nullSlot (r .window) (firstOpen (r .window) + 1) 64 (fit-facts r (f .fits) .numbers .window) (omega (arith, f .room)) in
     omega (
       arith,
       length-append (gather g (leadFrom r) (leadWindow r .len)) (c ∷ []),

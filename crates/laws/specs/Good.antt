@@ -15,11 +15,11 @@ use Rattle.tally.specs.Open.{noRead, noReads, fitRead}
 use Rattle.slots.specs.declared.Slot.{Slot}
 use Rattle.window.specs.declared.Window.{Window}
 use Rattle.window.specs.Window.{slotAt, noSlots}
+use Rattle.window.specs.Places.{size}
 use Rattle.replica.specs.declared.Replica.{Replica}
 use Rattle.replica.specs.Record.{fresh, zeroReplica}
 use Rattle.laws.specs.OfScalars.{Fixed}
 use Rattle.laws.specs.OfFit.{FitNumbers, Fits}
-use Rattle.laws.specs.Windows.{size}
 
 -- the lists behind the arrays that are in use have their sizes
 pub record Sized (r : Replica) : Type 0 where

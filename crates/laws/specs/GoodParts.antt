@@ -10,7 +10,7 @@ use lib.Seq.{getD-set-same}
 use lib.Dec.{ltb, leb, eqb}
 use borrow.Author.Tests.{leb-false, ltb-true, ltb-false, lt-ltb, le-leb}
 use Rattle.base.specs.Pick.{pick-cases, pick-both, and-left, and-right, and-make, or-false, decide, tests}
-use Rattle.base.specs.Over.{length-over}
+use Rattle.base.specs.Over.{length-over, set-each}
 use Rattle.members.specs.Laws.{within-none, within-insert}
 use Rattle.batch.specs.declared.Batch.{Batch}
 use Rattle.batch.specs.declared.KeyTable.{KeyTable}
@@ -25,7 +25,6 @@ use Rattle.decide.specs.declared.Scalars.{Scalars}
 use Rattle.decide.specs.declared.PeerBars.{PeerBars}
 use Rattle.decide.specs.Scalars.{withBallots, withNumbers, followed, withPrepared, steppedUp}
 use Rattle.decide.specs.Bars.{withBar, withFallen}
-use Rattle.laws.specs.OfBase.{set-each}
 use Rattle.laws.specs.OfScalars.{fallen-ways}
 use Rattle.laws.specs.OfFit.{FitNumbers}
 use Rattle.laws.specs.Leaves.{keysAfter}

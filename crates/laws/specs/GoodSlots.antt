@@ -17,11 +17,12 @@ use Rattle.decide.specs.declared.Reply.{Reply}
 use Rattle.decide.specs.Decide.{sentVote}
 use Rattle.window.specs.declared.Window.{Window}
 use Rattle.window.specs.Window.{slotAt, putSlot, grown, sweep}
+use Rattle.window.specs.Places.{size, put-long, put-each, filled-long, filled-most, filled-each, sweep-long, sweep-each}
 use Rattle.replica.specs.declared.Replica.{Replica}
 use Rattle.replica.specs.Messages.{clean, appended}
-use Rattle.laws.specs.Windows.{size, put-long, put-each, grown-long, grown-most, grown-each, sweep-long, sweep-each, appended-long, appended-most, appended-each}
 use Rattle.laws.specs.WaysReply.{adoptsVote, heardSlot}
 use Rattle.laws.specs.Good.{GoodBatch, GoodSlot, GoodWindow}
+use Rattle.laws.specs.Appended.{appended-long, appended-most, appended-each}
 
 module _ (Z : Type 0) where
   good-empty : GoodBatch Z emptyBatch
@@ -110,9 +111,9 @@ module _ (Z : Type 0) (group : ℕ) where
   pub good-grown : (w : Window) (n : ℕ) → n ≤ 64 → GoodWindow Z group w → GoodWindow Z group (grown w n)
   good-grown w n h g =
       record {
-        room = grown-most w n 64 (g .room) h;
-        long = λ z. grown-long w n ∙ g .long z;
-        each = λ j l. grown-each w n (GoodSlot Z group) j l (g .each j) good-null (good-past w j (g .long) (omega (arith, grown-most w n 64 (g .room) h)));
+        room = filled-most nullSlot w n 64 (g .room) h;
+        long = λ z. filled-long nullSlot w n ∙ g .long z;
+        each = λ j l. filled-each nullSlot w n (GoodSlot Z group) j l (g .each j) good-null (good-past w j (g .long) (omega (arith, filled-most nullSlot w n 64 (g .room) h)));
       }
 
   pub good-sweep : (f : ℕ → Slot → Slot) (from to : ℕ) (w : Window) → ((i : ℕ) (s : Slot) → GoodSlot Z group s → GoodSlot Z group (f i s)) → GoodWindow Z group w

@@ -13,11 +13,12 @@ use Rattle.tally.specs.declared.Read.{Read}
 use Rattle.tally.specs.Open.{newRead, withAck}
 use Rattle.actions.specs.Actions.{Act}
 use Rattle.slots.specs.declared.Slot.{Slot}
-use Rattle.slots.specs.Slots.{newBook, preparedSlot, redoneSlot, enteredSlot, markedSlot, executedSlot, acknowledgedSlot}
+use Rattle.slots.specs.Slots.{newBook, preparedSlot, redoneSlot, enteredSlot, markedSlot, executedSlot, acknowledgedSlot, nullSlot}
 use Rattle.decide.specs.declared.Reply.{Reply}
 use Rattle.decide.specs.Decide.{decideOffer}
 use Rattle.window.specs.declared.Window.{Window}
 use Rattle.window.specs.Window.{slotAt, putSlot, firstOpen}
+use Rattle.window.specs.Places.{filled-low, filled-has}
 use Rattle.replica.specs.declared.Replica.{Replica}
 use Rattle.replica.specs.Record.{Outcome, place, number, logEnd}
 use Rattle.replica.specs.Messages.{clean, prepareBook, prepareStep, replyOn, cleanReply, prepareReplyStep, acceptStep, acceptReplyStep}
@@ -27,7 +28,6 @@ use Rattle.replica.specs.Added.{movedExec, offerStep, executedStep}
 use Rattle.laws.specs.OfScalars.{fixed-same, fixed-then, followed-fixed, fallen-fixed}
 use Rattle.laws.specs.OfFit.{FitNumbers}
 use Rattle.laws.specs.Leaves.{done}
-use Rattle.laws.specs.Windows.{grown-low, grown-has, appended-low, appended-has}
 use Rattle.laws.specs.WaysMessages.{Keeps, prepareWindow, prepareEnd, prepareStep-ways, acceptWindow, acceptStep-ways, Replies, repliedSlot, acceptReplyStep-ways}
 use Rattle.laws.specs.WaysReply.{Answers, replyWindow, replySlot, adoptsVote, heardSlot, heardWindow, triggerSlot, countedWindow, tabledSc, replyOn-ways, prepareReplyStep-ways, reply-place}
 use Rattle.laws.specs.WaysLeadership.{leadWindow, leadFrom, leadTrigger, leadEnd, timeoutStep-ways, markWindow, markFrom, markEnd, commitNoticeStep-ways}
@@ -36,6 +36,7 @@ use Rattle.laws.specs.WaysAdded.{offerWindow, offerStep-ways, executedSt
 use Rattle.laws.specs.Good.{Good, GoodBatch, GoodSlot, GoodWindow, GoodRead, GoodReads, good-after}
 use Rattle.laws.specs.GoodSlots.{good-clean, good-prepared, good-redone, good-heard, good-counted, good-entered, good-accepted, good-acknowledged, good-committed, good-marked, good-executed, good-offered, good-put, good-grown, good-sweep, good-appended}
 use Rattle.laws.specs.GoodParts.{numbers-more, numbers-followed, numbers-prepared, numbers-moved, numbers-fallen, numbers-led, bars-long, good-keys, good-new, good-merged, good-acked, good-put-read, good-close, good-open}
+use Rattle.laws.specs.Appended.{appended-low, appended-has}
 
 module _ (Z : Type 0) (r : Replica) (g : Good Z r) where
   -- the good replica after a call
@@ -53,7 +54,7 @@ module _ (Z : Type 0) (r : Replica) (g : Good Z r) where
       let k : ℕ = place (r .sc) trigger + 1 in
       let w = good-grown Z (r .sc .group) (r .window) k (omega (arith, f .low, f .high)) (g .window) in
       good-after Z r _ (followed-fixed (r .sc) peer ballot)
-      (numbers-followed (r .sc) _ (numbers-more (r .sc) (r .window .len) (g .numbers) _ (grown-low (r .window) k) (w .room)) peer ballot (f .peer-is .member))
+      (numbers-followed (r .sc) _ (numbers-more (r .sc) (r .window .len) (g .numbers) _ (filled-low nullSlot (r .window) k) (w .room)) peer ballot (f .peer-is .member))
       (good-sweep Z (r .sc .group) (λ i s. preparedSlot ballot (prepareBook (r .sc) (prepareWindow r trigger) (place (r .sc) trigger) peer) s) (place (r .sc) trigger)
       (prepareEnd r trigger) (prepareWindow r trigger) (λ i s p. good-prepared Z (r .sc .group) ballot _ s p) w)
       (g .keys) (g .reads) (g .bars))
@@ -66,9 +67,9 @@ module _ (Z : Type 0) (r : Replica) (g : Good Z r) where
       let w = good-grown Z (r .sc .group) (r .window) k (omega (arith, f .low, f .high)) (g .window) in
       let s : Slot = slotAt (acceptWindow r slot) (place (r .sc) slot) in
       good-after Z r _ (followed-fixed (r .sc) peer ballot)
-      (numbers-followed (r .sc) _ (numbers-more (r .sc) (r .window .len) (g .numbers) _ (grown-low (r .window) k) (w .room)) peer ballot (f .peer-is .member))
+      (numbers-followed (r .sc) _ (numbers-more (r .sc) (r .window .len) (g .numbers) _ (filled-low nullSlot (r .window) k) (w .room)) peer ballot (f .peer-is .member))
       (good-put Z (r .sc .group) (acceptWindow r slot) (place (r .sc) slot) _
-      (good-accepted Z (r .sc .group) peer ballot (clean b) s (good-clean Z b) (w .each (place (r .sc) slot) (omega (arith, grown-has (r .window) k)))) w)
+      (good-accepted Z (r .sc .group) peer ballot (clean b) s (good-clean Z b) (w .each (place (r .sc) slot) (omega (arith, filled-has nullSlot (r .window) k)))) w)
       (good-keys Z true slot (clean b) (r .keys) (g .keys)) (g .reads) (g .bars))
 
   -- one slot written anew, all else as it was
@@ -129,7 +130,7 @@ module _ (Z : Type 0) (r : Replica) (g : Good Z r) where
       let k : ℕ = firstOpen (r .window) + 1 in
       let w = good-grown Z (r .sc .group) (r .window) k (omega (arith, f .room)) (g .window) in
       good-after Z r _ (record { id = refl; group = refl; start = refl; options = refl })
-      (numbers-led (r .sc) _ ballot (numbers-more (r .sc) (r .window .len) (g .numbers) _ (grown-low (r .window) k) (w .room)))
+      (numbers-led (r .sc) _ ballot (numbers-more (r .sc) (r .window .len) (g .numbers) _ (filled-low nullSlot (r .window) k) (w .room)))
       (good-sweep Z (r .sc .group) (λ i s. redoneSlot ballot (newBook (leadTrigger r) (leadEnd r)) s) (leadFrom r) (leadWindow r .len) (leadWindow r)
       (λ i s p. good-redone Z (r .sc .group) ballot (leadTrigger r) (leadEnd r) s p) w)
       (g .keys) (g .reads) (λ z. refl))
@@ -140,7 +141,7 @@ module _ (Z : Type 0) (r : Replica) (g : Good Z r) where
       (λ f.
       let w = good-grown Z (r .sc .group) (r .window) (place (r .sc) bar) (omega (arith, f .high)) (g .window) in
       good-after Z r _ (fixed-same (r .sc))
-      (numbers-more (r .sc) (r .window .len) (g .numbers) _ (grown-low (r .window) (place (r .sc) bar)) (w .room))
+      (numbers-more (r .sc) (r .window .len) (g .numbers) _ (filled-low nullSlot (r .window) (place (r .sc) bar)) (w .room))
       (good-sweep Z (r .sc .group) (λ i s. markedSlot s) (markFrom r) (markEnd r ballot bar) (markWindow r bar) (λ i s p. good-marked Z (r .sc .group) s p) w)
       (g .keys) (g .reads) (g .bars))
 
@@ -152,7 +153,7 @@ module _ (Z : Type 0) (r : Replica) (g : Good Z r) where
       (λ f.
       let k : ℕ = r .window .len + 1 in
       let w = good-grown Z (r .sc .group) (r .window) k (omega (arith, f .room)) (g .window) in
-      good-after Z r _ (fixed-same (r .sc)) (numbers-more (r .sc) (r .window .len) (g .numbers) _ (grown-low (r .window) k) (w .room))
+      good-after Z r _ (fixed-same (r .sc)) (numbers-more (r .sc) (r .window .len) (g .numbers) _ (filled-low nullSlot (r .window) k) (w .room))
       (good-put Z (r .sc .group) (offerWindow r) (r .window .len) _ (good-offered Z (r .sc .group) (r .sc .«bal_prepared») (clean b) (good-clean Z b)) w)
       (good-keys Z true (logEnd r) (clean b) (r .keys) (g .keys)) (g .reads) (g .bars))
 

@@ -5,10 +5,8 @@ pub mod WaysReply
 pub mod WaysLeadership
 pub mod WaysDurability
 pub mod WaysAdded
-pub mod OfBase
 pub mod OfFit
-pub mod Windows
-pub mod ByPlace
+pub mod Appended
 pub mod OfScalars
 pub mod Conflict
 pub mod Counts

@@ -8,7 +8,7 @@ use lib.Dec.{ltb, leb, eqb}
 use lib.ListN.{getD}
 use borrow.Author.Tests.{ltb-true, leb-true, not-true, not-false, lt-ltb, le-leb}
 use Rattle.base.specs.Pick.{and-left, and-right, and-make}
-use Rattle.base.specs.Find.{any, any-false}
+use Rattle.base.specs.Find.{any, any-false, any-nowhere}
 use Rattle.members.specs.Groups.{groupSize}
 use Rattle.tally.specs.declared.Reads.{Reads}
 use Rattle.tally.specs.Open.{noRead, fitRead, fitReads}
@@ -21,7 +21,6 @@ use Rattle.window.specs.Window.{slotAt, fitSlots}
 use Rattle.replica.specs.declared.Replica.{Replica}
 use Rattle.replica.specs.Record.{fresh}
 use Rattle.replica.specs.Fit.{fit}
-use Rattle.laws.specs.OfBase.{any-nowhere}
 
 -- no leader, or one of the group
 abbrev pub leaderFits : Scalars → Bool

@@ -14,12 +14,13 @@ use Rattle.tally.specs.declared.Read.{Read}
 use Rattle.tally.specs.Open.{smaller, withTally, withAck}
 use Rattle.actions.specs.declared.Action.the-variants.{StatusUp, Heartbeat}
 use Rattle.actions.specs.Actions.{Act, bare}
-use Rattle.slots.specs.Slots.{preparedSlot, newBook, redoneSlot, markedSlot, passedSlot}
+use Rattle.slots.specs.Slots.{preparedSlot, newBook, redoneSlot, markedSlot, passedSlot, nullSlot}
 use Rattle.decide.specs.declared.Reply.{Reply}
 use Rattle.decide.specs.Decide.{decideOffer}
 use Rattle.window.specs.declared.Window.{Window}
 use Rattle.window.specs.Window.{slotAt, firstOpen}
 use Rattle.window.specs.Acts.{markActs}
+use Rattle.window.specs.Places.{size, put-long, filled-long, sweep-long}
 use Rattle.replica.specs.declared.Replica.{Replica}
 use Rattle.replica.specs.declared.Done.{Done}
 use Rattle.replica.specs.Record.{Outcome, place, number}
@@ -33,7 +34,6 @@ use Rattle.laws.specs.OfScalars.{Fixed, fixed-same, fixed-then, followed
 use Rattle.laws.specs.OfFit.{FitNumbers, fit-facts}
 use Rattle.laws.specs.Conflict.{TallyOnly, Conflicts, conflict-only}
 use Rattle.laws.specs.Leaves.{done, orKept-ways}
-use Rattle.laws.specs.Windows.{size, put-long, grown-long, sweep-long}
 use Rattle.laws.specs.WaysMessages.{Keeps, prepareWindow, prepareEnd, prepareStep-ways, acceptWindow, acceptDecided, acceptStep-ways, acceptReplyStep-ways}
 use Rattle.laws.specs.WaysReply.{prepareReplyStep-ways}
 use Rattle.laws.specs.WaysLeadership.{leadWindow, leadFrom, leadTrigger, leadEnd, markEnd, timeoutStep-ways, markFrom, markWindow, commitNoticeStep-ways}
@@ -66,14 +66,14 @@ module _ (C : Outcome → Type 0) where
       prepareStep-ways (Sound C r) r n peer trigger ballot (sound-kept r)
       (λ f. sound-done r _ _ (prepared-few r peer trigger ballot f) (followed-fixed (r .sc) peer ballot)
       (sweep-long (λ i s. preparedSlot ballot (prepareBook (r .sc) (prepareWindow r trigger) (place (r .sc) trigger) peer) s) (place (r .sc) trigger) (prepareEnd r trigger) (prepareWindow r trigger)
-      ∙ grown-long (r .window) (place (r .sc) trigger + 1)))
+      ∙ filled-long nullSlot (r .window) (place (r .sc) trigger + 1)))
 
   -- ── Accept, AcceptReply ──
   accept-sound : (r : Replica) (n peer slot ballot : ℕ) (b : Batch) → Sound C r (acceptStep r n peer slot ballot b)
   accept-sound r n peer slot ballot b =
       acceptStep-ways (Sound C r) r n peer slot ballot b (sound-kept r)
       (λ f. sound-done r _ _ (omega (arith, says-few (acceptDecided r peer slot ballot b .says) (acceptDecided r peer slot ballot b .keys))) (followed-fixed (r .sc) peer ballot)
-      (put-long (acceptWindow r slot) (place (r .sc) slot) _ ∙ grown-long (r .window) (place (r .sc) slot + 1)))
+      (put-long (acceptWindow r slot) (place (r .sc) slot) _ ∙ filled-long nullSlot (r .window) (place (r .sc) slot + 1)))
 
   acceptReply-sound : (r : Replica) (n peer slot ballot : ℕ) → Sound C r (acceptReplyStep r n peer slot ballot)
   acceptReply-sound r n peer slot ballot =
@@ -90,7 +90,7 @@ module _ (C : Outcome → Type 0) where
   timeout-sound r n source =
       timeoutStep-ways (Sound C r) r n source (sound-kept r)
       (λ ballot f. sound-done r _ _ (led-few r source ballot (bare StatusUp) (bare Heartbeat) _ f) (record { id = refl; group = refl; start = refl; options = refl })
-      (sweep-long (λ i s. redoneSlot ballot (newBook (leadTrigger r) (leadEnd r)) s) (leadFrom r) (leadWindow r .len) (leadWindow r) ∙ grown-long (r .window) (firstOpen (r .window) + 1)))
+      (sweep-long (λ i s. redoneSlot ballot (newBook (leadTrigger r) (leadEnd r)) s) (leadFrom r) (leadWindow r .len) (leadWindow r) ∙ filled-long nullSlot (r .window) (firstOpen (r .window) + 1)))
 
   commitNotice-sound : (r : Replica) (n peer ballot bar : ℕ) → Sound C r (commitNoticeStep r n peer ballot bar)
   commitNotice-sound r n peer ballot bar =
@@ -102,7 +102,7 @@ module _ (C : Outcome → Type 0) where
         length-gather (λ i. markActs (number (r .sc) i) (slotAt (markWindow r bar) i)) (λ i. mark-few (number (r .sc) i) (slotAt (markWindow r bar) i)) (markFrom r) (markEnd r ballot bar),
       ))
       (fixed-same (r .sc))
-      (sweep-long (λ i s. markedSlot s) (markFrom r) (markEnd r ballot bar) (markWindow r bar) ∙ grown-long (r .window) (place (r .sc) bar)))
+      (sweep-long (λ i s. markedSlot s) (markFrom r) (markEnd r ballot bar) (markWindow r bar) ∙ filled-long nullSlot (r .window) (place (r .sc) bar)))
 
   logged-sound : (r : Replica) (n : ℕ) (d : Done) → Sound C r (loggedStep r n d)
   logged-sound r n d =
@@ -127,7 +127,7 @@ module _ (C : Outcome → Type 0) where
   unfolding decideOffer
   offer-sound r n b =
       offerStep-ways (Sound C r) r n b (sound-kept r)
-      (λ f. sound-done r _ _ (omega arith) (fixed-same (r .sc)) (put-long (offerWindow r) (r .window .len) _ ∙ grown-long (r .window) (r .window .len + 1)))
+      (λ f. sound-done r _ _ (omega arith) (fixed-same (r .sc)) (put-long (offerWindow r) (r .window .len) _ ∙ filled-long nullSlot (r .window) (r .window .len + 1)))
 
   executed-sound : (r : Replica) (n slot : ℕ) → Sound C r (executedStep r n slot)
   unfolding movedExec

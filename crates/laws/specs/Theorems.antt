@@ -10,6 +10,7 @@ use lib.ListN.{length}
 use borrow.Author.Tests.{le-leb, lt-leb}
 use Rattle.base.specs.Pick.{pick-both, decide}
 use Rattle.decide.specs.Scalars.{mayBe, fitScalars}
+use Rattle.window.specs.Places.{size}
 use Rattle.replica.specs.declared.Replica.{Replica}
 use Rattle.replica.specs.declared.Made.{Made}
 use Rattle.replica.specs.Record.{kept, zeroReplica, newReplica}
@@ -18,7 +19,6 @@ use Rattle.replica.specs.Step.{Call, step}
 use Rattle.laws.specs.Sound.{step-sound}
 use Rattle.laws.specs.Conflict.{Conflicts}
 use Rattle.laws.specs.Room.{step-unready, step-room}
-use Rattle.laws.specs.Windows.{size}
 use Rattle.laws.specs.OfFit.{fresh-fits, fit-facts, facts-fit}
 use Rattle.laws.specs.Good.{Sized, fits-good, good-fits, good-sized, fresh-sized, zero-sized}
 use Rattle.laws.specs.GoodLogged.{step-good}

@@ -1,7 +1,7 @@
 -- Ballots. 01: "New ballot: (floor(bal_max_seen/256)+1)*256 + id + 1. A ballot's owner is (ballot mod 256) - 1."
-use mathlib.Core.Bool.{Bool, _&&_, _||_}
+use mathlib.Core.Bool.{Bool, _||_}
 use Prim.Native.Nat.{ℕ, _+_, _-_, _*_, _/_, _%_}
-use lib.Dec.{ltb, leb, eqb}
+use lib.Dec.{ltb, eqb}
 use Rattle.base.specs.Pick.{pick}
 use Rattle.members.specs.declared.Owner.{Owner}
 use Rattle.members.specs.declared.Owner.the-variants.{Nobody, Member}

@@ -1,6 +1,5 @@
 -- The laws of lines: an item, a row turn by turn, and a run.
-use mathlib.Core.Path.{_≡_, refl, sym, _∙_, ap}
-use mathlib.Core.Bool.{Bool, true, false}
+use mathlib.Core.Path.{_≡_, refl, sym, _∙_}
 use mathlib.Core.List.{List, [], _∷_, _++_}
 use Prim.Native.Nat.{ℕ, zero, suc, _+_, _*_, _%_, _^_, _≤_, _<_}
 use native.Mathlib.Omega.{arith}
@@ -8,7 +7,7 @@ use native.Mathlib.Numerals.{add-one}
 use lib.ListN.{length, length-append, getD}
 use borrow.Author.Tests.{le-leb, lt-leb}
 use Rattle.base.specs.Gather.{gather, gather-more}
-use Rattle.words.specs.Put.{putAt, put, Written}
+use Rattle.words.specs.Put.{Written}
 use Rattle.words.specs.PutLaws.{written-then, written-fits, put-fits, next-fits, put-none}
 use Rattle.words.specs.Decimal.{decimal}
 use Rattle.words.specs.DecimalLaws.{decimal-most}

@@ -8,9 +8,7 @@ use denote.Ref.{RefT, now}
 use Rattle.trace.specs.declared.Next.the-variants.{Whole, Short, End}
 use Rattle.trace.specs.Records.{fieldsAt, noRecord, nextAt}
 use Rattle.trace.specs.Laws.{found-whole}
-use Rattle.reader.specs.declared.Reader.{Reader}
-use Rattle.reader.specs.declared.Step.{Step}
-use Rattle.reader.specs.Steps.{afterAt, stepAt, readerAfter, placeAfter}
+use Rattle.reader.specs.Steps.{stepAt, readerAfter, placeAfter}
 use Rattle.reader.specs.Laws.{after-whole, after-short, after-end, step-whole, step-short, step-end, three, after-within}
 
 -- a reader that goes on n times stands where n steps lead

@@ -1,25 +1,24 @@
 -- The laws of the added calls: each way through offer and executed.
-use mathlib.Core.Path.{_≡_, sym, ap, _∙_}
+use mathlib.Core.Path.{_≡_, _∙_}
 use mathlib.Core.Bool.{true, false, not}
 use Prim.Native.Nat.{ℕ, _+_, _-_, _≤_, _<_}
 use native.Mathlib.Omega.{arith}
 use lib.Dec.{ltb, leb, eqb}
 use borrow.Author.Tests.{lt-ltb, le-ltb, le-leb, lt-leb}
-use Rattle.base.specs.Pick.{pick, pick-cases}
-use Rattle.base.specs.Scan.{scan, scan-high}
+use Rattle.base.specs.Pick.{pick}
+use Rattle.base.specs.Scan.{scan-high}
 use Rattle.batch.specs.declared.Batch.{Batch}
-use Rattle.batch.specs.declared.Made.{Made}
-use Rattle.batch.specs.Batches.{isBatch, makeBatch}
+use Rattle.batch.specs.Batches.{isBatch}
 use Rattle.slots.specs.declared.Slot.{Slot}
-use Rattle.slots.specs.Slots.{executedSlot}
+use Rattle.slots.specs.Slots.{executedSlot, nullSlot}
 use Rattle.decide.specs.declared.Scalars.{Scalars}
 use Rattle.decide.specs.declared.Decided.{Decided}
 use Rattle.decide.specs.Scalars.{withBars}
 use Rattle.decide.specs.Decide.{mayOffer, decideOffer}
 use Rattle.window.specs.declared.Window.{Window}
 use Rattle.window.specs.Window.{slotAt, putSlot, grown}
-use Rattle.window.specs.Bounded.{grownIn, executedIn}
-use Rattle.window.specs.BoundedLaws.{grown-in, executed-in}
+use Rattle.window.specs.Bounded.{filledIn, executedIn}
+use Rattle.window.specs.BoundedLaws.{filled-in, executed-in}
 use Rattle.replica.specs.declared.Replica.{Replica}
 use Rattle.replica.specs.Record.{Outcome, kept, settled, withWindow, logEnd}
 use Rattle.replica.specs.Fit.{ready}
@@ -57,9 +56,9 @@ module _ (r : Replica) (room : ℕ) (b : Batch) where
         pub offer-full : 64 ≤ r .window .len → offerStep r room b ≡ kept 5 r
         offer-full h = offer-goes ∙ rw (f, g, le-leb 64 (r .window .len) h)
 
-        pub offer-settles : r .window .len < 64 → (w : Window) (c : Batch) (d : Decided) → w ≡ grownIn (r .window) (r .window .len + 1) → c ≡ clean b
+        pub offer-settles : r .window .len < 64 → (w : Window) (c : Batch) (d : Decided) → w ≡ filledIn nullSlot (r .window) (r .window .len + 1) → c ≡ clean b
             → d ≡ decideOffer (r .sc) (logEnd r) c → offerStep r room b ≡ settled r w (r .window .len) (logEnd r) d
-        offer-settles h w c d p q s = offer-goes ∙ rw (f, g, lt-leb 64 (r .window .len) h, p, grown-in (r .window) (r .window .len + 1) (omega arith), s, q)
+        offer-settles h w c d p q s = offer-goes ∙ rw (f, g, lt-leb 64 (r .window .len) h, p, filled-in nullSlot (r .window) (r .window .len + 1) (omega arith), s, q)
 
 -- ── executed ──
 module _ (r : Replica) (w : Window) where

@@ -1,5 +1,5 @@
 -- What every call is tested for first, as one answer: 1, 2 and 3 in 01's order, 0 where the call goes on.
-use mathlib.Core.Bool.{Bool, not}
+use mathlib.Core.Bool.{not}
 use Prim.Native.Nat.{ℕ}
 use Rattle.base.specs.Pick.{pick}
 use Rattle.members.specs.Ballots.{owns}

@@ -3,20 +3,18 @@ use mathlib.Core.Bool.{Bool, true, false, _&&_, _||_, not}
 use mathlib.Core.List.{List, [], _∷_, _++_}
 use Prim.Native.Nat.{ℕ}
 use lib.Dec.{T, eqb}
-use lib.ListN.{getD, replicate, length}
-use Rattle.base.specs.Pick.{pick}
+use lib.ListN.{getD, replicate}
 use Rattle.base.specs.Scan.{scan}
 use Rattle.base.specs.Gather.{gather}
 use Rattle.members.specs.Sets.{has, insert, count, countIn}
 use Rattle.batch.specs.declared.Batch.{Batch}
-use Rattle.batch.specs.Batches.{emptyBatch, makeBatch, sameList}
+use Rattle.batch.specs.Batches.{makeBatch, sameList}
 use Rattle.batch.specs.Keys.{placeIn, noteKey, noteKeys, newKeys, overfullIn}
-use Rattle.tally.specs.declared.Held.{Held}
 use Rattle.tally.specs.declared.Best.the-variants.{Value}
 use Rattle.tally.specs.declared.Tally.{Tally}
 use Rattle.tally.specs.Merge.{noBest, bestNumbers, bestAt, merge}
 use Rattle.tally.specs.Open.{noRead, findRead, openRead, closeRead, putRead, replyTo, fitReads}
-use Rattle.actions.specs.Actions.{flat, numbersOf}
+use Rattle.actions.specs.Actions.{flat}
 use Rattle.slots.specs.declared.Slot.{Slot}
 use Rattle.slots.specs.Slots.{noVote, fitSlot}
 use Rattle.decide.specs.declared.Scalars.{Scalars}
@@ -24,12 +22,12 @@ use Rattle.decide.specs.declared.Reply.{Reply}
 use Rattle.decide.specs.Bars.{notAbove, leastMajority, withBar, withFallen}
 use Rattle.decide.specs.Decide.{decideAccept, decideAcceptReply, decideVote, decideCount, decidePromised, decideAccepted, decideOffer}
 use Rattle.decide.specs.Scalars.{fitScalars}
-use Rattle.window.specs.Window.{slotAt, grown, fitSlots, lastUsed, firstOpen, lastOpen, markStop}
+use Rattle.window.specs.Window.{slotAt, fitSlots, lastUsed, firstOpen, lastOpen, markStop, filled}
 use Rattle.replica.specs.declared.Replica.{Replica}
-use Rattle.replica.specs.declared.Entry.the-variants.{PrepareBal, AcceptData, CommitSlot}
+use Rattle.replica.specs.declared.Entry.the-variants.{PrepareBal}
 use Rattle.replica.specs.Record.{Outcome, newReplica, noting, settled}
 use Rattle.replica.specs.Fit.{fit}
-use Rattle.replica.specs.Messages.{prepareOn, prepareStep, appended, countedOn, votedOn, repliedOn, replyOn, prepareReplyStep, acceptStep, acceptReplyStep}
+use Rattle.replica.specs.Messages.{prepareOn, prepareStep, countedOn, votedOn, repliedOn, replyOn, prepareReplyStep, acceptStep, acceptReplyStep}
 use Rattle.replica.specs.Leadership.{leadOn, stepUp, timeoutStep, markOn, commitNoticeStep}
 use Rattle.replica.specs.Durability.{preparedDone, movedAccept, acceptedDone, passOn, passStop, committedDone, loggedOn, loggedStep}
 use Rattle.replica.specs.Quorumread.{openReadStep, repliedStep, readReplyStep}
@@ -173,5 +171,5 @@ marked =
     ∷ []
 
 pub marked-hold : T (rightRuns marked)
-unfolding rightRuns marked rightRun rightTurn newReplica fit fitScalars fitSlots fitReads fitSlot grown noting settled prepareOn prepareStep lastUsed appended countedOn votedOn repliedOn replyOn prepareReplyStep acceptStep acceptReplyStep firstOpen lastOpen leadOn stepUp timeoutStep markOn markStop commitNoticeStep preparedDone movedAccept acceptedDone passOn passStop committedDone loggedOn loggedStep openReadStep repliedStep readReplyStep offerStep movedExec executedStep decideAccept decideAcceptReply decideVote decideCount decidePromised decideAccepted decideOffer notAbove leastMajority withBar withFallen has insert count countIn makeBatch noteKey noteKeys newKeys placeIn overfullIn merge findRead openRead closeRead putRead replyTo scan
+unfolding rightRuns marked rightRun rightTurn newReplica fit fitScalars fitSlots fitReads fitSlot filled noting settled prepareOn prepareStep lastUsed countedOn votedOn repliedOn replyOn prepareReplyStep acceptStep acceptReplyStep firstOpen lastOpen leadOn stepUp timeoutStep markOn markStop commitNoticeStep preparedDone movedAccept acceptedDone passOn passStop committedDone loggedOn loggedStep openReadStep repliedStep readReplyStep offerStep movedExec executedStep decideAccept decideAcceptReply decideVote decideCount decidePromised decideAccepted decideOffer notAbove leastMajority withBar withFallen has insert count countIn makeBatch noteKey noteKeys newKeys placeIn overfullIn merge findRead openRead closeRead putRead replyTo scan
 marked-hold = tt

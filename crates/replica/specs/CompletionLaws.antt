@@ -8,9 +8,9 @@ use native.Mathlib.Omega.{arith}
 use lib.Dec.{leb, eqb}
 use lib.ListN.{length, set, length-append}
 use borrow.Author.Tests.{lt-ltb, le-ltb, le-leb, lt-leb, eq-eqb, ne-eqb, eqb-true}
-use Rattle.base.specs.Pick.{pick, pick-both, pick-cases, tests}
+use Rattle.base.specs.Pick.{pick, pick-both, pick-cases}
 use Rattle.base.specs.Gather.{gather}
-use Rattle.base.specs.Scan.{scan, scan-low, scan-below}
+use Rattle.base.specs.Scan.{scan-low, scan-below}
 use Rattle.batch.specs.declared.Batch.{Batch}
 use Rattle.batch.specs.Keys.{overfull}
 use Rattle.actions.specs.declared.Action.the-variants.{CommitNotice}

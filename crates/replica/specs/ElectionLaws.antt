@@ -9,7 +9,6 @@ use lib.Dec.{ltb, leb, eqb}
 use lib.ListN.{length, length-append}
 use borrow.Author.Tests.{lt-ltb, le-ltb, le-leb, lt-leb, eq-eqb, ne-eqb}
 use Rattle.base.specs.Pick.{pick}
-use Rattle.base.specs.Scan.{scan}
 use Rattle.members.specs.declared.NextBallot.{NextBallot}
 use Rattle.members.specs.declared.NextBallot.the-variants.{Ballot, Spent}
 use Rattle.members.specs.Ballots.{nextBallot}
@@ -17,19 +16,20 @@ use Rattle.actions.specs.declared.Action.the-variants.{Prepare, Heartbeat, Stat
 use Rattle.actions.specs.Actions.{Act, bare, writeAt, putAct}
 use Rattle.actions.specs.Laws.{write-then, put-in, length-put, length-write}
 use Rattle.slots.specs.declared.LeaderBook.{LeaderBook}
-use Rattle.slots.specs.Slots.{newBook, redoneSlot, markedSlot}
+use Rattle.slots.specs.Slots.{newBook, redoneSlot, markedSlot, nullSlot}
 use Rattle.decide.specs.declared.Scalars.{Scalars}
 use Rattle.decide.specs.declared.PeerBars.{PeerBars}
 use Rattle.decide.specs.Scalars.{steppedUp, ignoresTimeout}
 use Rattle.decide.specs.Bars.{unknownBars}
 use Rattle.window.specs.declared.Window.{Window}
 use Rattle.window.specs.declared.Placed.{Placed}
-use Rattle.window.specs.Window.{grown, firstOpen, lastOpen, markStop, passes}
+use Rattle.window.specs.Window.{grown, firstOpen, markStop}
 use Rattle.window.specs.Acts.{redoActs, markActs}
 use Rattle.window.specs.Sweeps.{sweepActs, Ranged, Swept}
-use Rattle.window.specs.Bounded.{grownIn, lastOpenIn, stopIn}
-use Rattle.window.specs.BoundedLaws.{grown-in, lastOpen-in, stop-in}
-use Rattle.window.specs.Laws.{grown-within, grown-keeps, firstOpen-stop, firstOpen-within, markStop-stop, markStop-low, markStop-within}
+use Rattle.window.specs.Bounded.{filledIn, lastOpenIn, stopIn}
+use Rattle.window.specs.BoundedLaws.{filled-in, lastOpen-in, stop-in}
+use Rattle.window.specs.Places.{filled-low, filled-most}
+use Rattle.window.specs.Laws.{firstOpen-stop, firstOpen-within, markStop-stop, markStop-low, markStop-within}
 use Rattle.replica.specs.declared.Replica.{Replica}
 use Rattle.replica.specs.Record.{Outcome, kept, withWindow}
 use Rattle.replica.specs.Leadership.{leadOn, stepUp, timeoutStep, markOn, commitNoticeStep}
@@ -85,25 +85,25 @@ module _ (r : Replica) (l : r .window .len ≤ 64) (i : ℕ) (e : i ≡ stopIn (
     unfolding stepUp
     step-full h q = rw (← found, le-ltb (r .sc .start + i) (r .sc .«exec_bar») h, le-leb 64 i q)
 
-    pub step-on : {last : ℕ} {w : Window} → r .sc .«exec_bar» ≤ r .sc .start + i → i < 64 → last ≡ lastOpenIn (r .window) → w ≡ grownIn (r .window) (i + 1)
+    pub step-on : {last : ℕ} {w : Window} → r .sc .«exec_bar» ≤ r .sc .start + i → i < 64 → last ≡ lastOpenIn (r .window) → w ≡ filledIn nullSlot (r .window) (i + 1)
         → stepUp r (Ballot ballot) ≡ leadOn r w (r .sc .start + i) (r .sc .start + last) ballot
     unfolding stepUp
-    step-on h q f g = rw (g, grown-in (r .window) (i + 1) (omega arith), f, lastOpen-in (r .window) l, ← found, le-ltb (r .sc .start + i) (r .sc .«exec_bar») h, lt-leb 64 i q)
+    step-on h q f g = rw (g, filled-in nullSlot (r .window) (i + 1) (omega arith), f, lastOpen-in (r .window) l, ← found, le-ltb (r .sc .start + i) (r .sc .«exec_bar») h, lt-leb 64 i q)
 
 -- what an admitted call hands on, and what the window with the trigger slot keeps of it
 pub ready-fits : (r : Replica) (room : List ℕ) → Ready r (length room) → StepFits r room
 ready-fits r room f =
     record { long = f .long; low = f .low; within = f .within; exec-low = f .exec-low; exec-high = omega (arith, f .exec-high, f .commit-high) }
 
-pub grown-fits : (r : Replica) (w : Window) (room : List ℕ) {n : ℕ} → StepFits r room → n ≤ 64 → w ≡ grownIn (r .window) n → LeadFits r w room
+pub grown-fits : (r : Replica) (w : Window) (room : List ℕ) {n : ℕ} → StepFits r room → n ≤ 64 → w ≡ filledIn nullSlot (r .window) n → LeadFits r w room
 grown-fits r w room {n} f h e =
-    let l : w .len ≡ grown (r .window) n .len = ap (λ (v : Window). v .len) (e ∙ grown-in (r .window) n h) in
+    let l : w .len ≡ grown (r .window) n .len = ap (λ (v : Window). v .len) (e ∙ filled-in nullSlot (r .window) n h) in
     record {
       long = f .long;
       low = f .low;
-      within = omega (arith, grown-within (r .window) n (f .within) h);
+      within = omega (arith, filled-most nullSlot (r .window) n 64 (f .within) h);
       exec-low = f .exec-low;
-      exec-high = omega (arith, f .exec-high, grown-keeps (r .window) n);
+      exec-high = omega (arith, f .exec-high, filled-low nullSlot (r .window) n);
     }
 
 -- ── "status up, heartbeat, PrepareBal by rising slot, Prepare" ──
@@ -170,10 +170,10 @@ module _ (r : Replica) (ballot bar : ℕ) where
           pub notice-past : r .sc .start + 64 < bar → commitNoticeStep r room peer ballot bar ≡ kept 5 r
           notice-past l = notice-on ∙ rw (eq-eqb ballot (r .sc .«bal_max_seen») g, lt-leb bar (r .sc .«commit_bar») k, lt-ltb (r .sc .start + 64) bar l)
 
-          pub notice-marks : {w : Window} {stop : ℕ} → bar ≤ r .sc .start + 64 → w ≡ grownIn (r .window) new → stop ≡ stopIn w ballot 2 old new
+          pub notice-marks : {w : Window} {stop : ℕ} → bar ≤ r .sc .start + 64 → w ≡ filledIn nullSlot (r .window) new → stop ≡ stopIn w ballot 2 old new
               → commitNoticeStep r room peer ballot bar ≡ markOn r w old stop
           notice-marks {w} {stop} l p′ q′ =
-              let p : w ≡ grown (r .window) new = p′ ∙ grown-in (r .window) new (omega arith) in
+              let p : w ≡ grown (r .window) new = p′ ∙ filled-in nullSlot (r .window) new (omega arith) in
               let q : stop ≡ markStop w ballot old new = q′ ∙ stop-in w old new ballot 2 (omega arith) ∙ sym (markStop-stop w ballot old new) in
               notice-on
               ∙ rw (eq-eqb ballot (r .sc .«bal_max_seen») g, lt-leb bar (r .sc .«commit_bar») k, le-ltb (r .sc .start + 64) bar l, ← p, q)

@@ -1,9 +1,8 @@
 -- 01, answer 1: "action room too short, or record unfit: bad group size or id, start above 2^32, a count above its table's size, a member
 -- set or leader outside the group, not start <= exec_bar <= commit_bar <= log end, or accept_bar below start or above the log end"
-use mathlib.Core.Bool.{Bool, true, false, not, _&&_}
+use mathlib.Core.Bool.{Bool, _&&_}
 use Prim.Native.Nat.{ℕ}
 use lib.Dec.{leb}
-use Rattle.base.specs.Find.{any}
 use Rattle.tally.specs.Open.{fitReads}
 use Rattle.decide.specs.Scalars.{fitScalars}
 use Rattle.window.specs.Window.{fitSlots}

@@ -1,6 +1,6 @@
 -- 001, leadership.rs: become_a_leader (a timeout) and CommitNotice with advance_commit_bar. check_leader is `followed` and `downActs`.
-use mathlib.Core.Bool.{Bool, true, false, not, _&&_}
-use mathlib.Core.List.{List, [], _∷_, _++_}
+use mathlib.Core.Bool.{not}
+use mathlib.Core.List.{[], _∷_, _++_}
 use Prim.Native.Nat.{ℕ, _+_}
 use lib.Dec.{ltb, leb, eqb}
 use Rattle.base.specs.Pick.{pick}

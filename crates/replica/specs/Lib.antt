@@ -22,7 +22,6 @@ pub mod AddedFits
 pub mod AddedLaws
 pub mod Worth
 pub mod Replying
-pub mod AppendLaws
 pub mod ReplyLaws
 pub mod CompletionFits
 pub mod CompletionLaws

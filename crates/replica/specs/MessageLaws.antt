@@ -18,7 +18,7 @@ use Rattle.actions.specs.declared.Action.the-variants.{StatusDown}
 use Rattle.actions.specs.Actions.{Act, bare, putAct}
 use Rattle.actions.specs.Laws.{write-none, write-then, put-in}
 use Rattle.slots.specs.declared.ReplicaBook.{ReplicaBook}
-use Rattle.slots.specs.Slots.{preparedSlot}
+use Rattle.slots.specs.Slots.{preparedSlot, nullSlot}
 use Rattle.decide.specs.declared.Scalars.{Scalars}
 use Rattle.decide.specs.declared.Decided.{Decided}
 use Rattle.decide.specs.Scalars.{followed, stepsDown}
@@ -28,9 +28,10 @@ use Rattle.window.specs.declared.Placed.{Placed}
 use Rattle.window.specs.Window.{slotAt, grown, lastUsed}
 use Rattle.window.specs.Acts.{promise}
 use Rattle.window.specs.Sweeps.{Swept}
-use Rattle.window.specs.Bounded.{grownIn}
-use Rattle.window.specs.BoundedLaws.{grown-in}
-use Rattle.window.specs.Laws.{grown-within, lastUsed-within}
+use Rattle.window.specs.Bounded.{filledIn}
+use Rattle.window.specs.BoundedLaws.{filled-in}
+use Rattle.window.specs.Places.{filled-most}
+use Rattle.window.specs.Laws.{lastUsed-within}
 use Rattle.replica.specs.declared.Replica.{Replica}
 use Rattle.replica.specs.Record.{Outcome, kept, settled, withWindow, place, number, logEnd}
 use Rattle.replica.specs.Messages.{clean, downActs, prepareTop, prepareOn, prepareStep, acceptOn, acceptStep, acceptReplyStep}
@@ -88,15 +89,15 @@ module _ (r : Replica) (n peer trigger ballot first : ℕ) (e : first ≡ fromOw
             prepare-open
             ∙ rw (le-ltb trigger (r .sc .start) f, le-ltb ballot (r .sc .«bal_max_seen») g, le-leb (r .sc .start + 64) trigger h)
 
-        pub prepare-goes : (w : Window) → trigger < r .sc .start + 64 → w ≡ grownIn (r .window) (place (r .sc) trigger + 1)
+        pub prepare-goes : (w : Window) → trigger < r .sc .start + 64 → w ≡ filledIn nullSlot (r .window) (place (r .sc) trigger + 1)
             → prepareStep r n peer trigger ballot ≡ prepareOn r w (place (r .sc) trigger) peer ballot
         prepare-goes w h q =
             prepare-open
-            ∙ rw (le-ltb trigger (r .sc .start) f, le-ltb ballot (r .sc .«bal_max_seen») g, lt-leb (r .sc .start + 64) trigger h, q, grown-in (r .window) (place (r .sc) trigger + 1) (omega arith))
+            ∙ rw (le-ltb trigger (r .sc .start) f, le-ltb ballot (r .sc .«bal_max_seen») g, lt-leb (r .sc .start + 64) trigger h, q, filled-in nullSlot (r .window) (place (r .sc) trigger + 1) (omega arith))
 
 -- the window as the code has it, grown to the trigger's place
-pub grown-fits : {v : Window} (w : Window) (n : ℕ) → v ≡ grownIn w n → w .len ≤ 64 → n ≤ 64 → v .len ≤ 64
-grown-fits w n e h q = rw (e, grown-in w n q) (grown-within w n h q)
+pub grown-fits : {v : Window} (w : Window) (n : ℕ) → v ≡ filledIn nullSlot w n → w .len ≤ 64 → n ≤ 64 → v .len ≤ 64
+grown-fits w n e h q = rw (e, filled-in nullSlot w n q) (filled-most nullSlot w n 64 h q)
 
 -- the last place that it covers, as the code has it
 pub top-within : (w : Window) (from last top : ℕ) → last ≡ lastUsed w → top ≡ larger from last → w .len ≤ 64 → from < 64 → (from ≤ top) × (top < 64)
@@ -193,12 +194,12 @@ module _ (r : Replica) (n peer slot ballot : ℕ) (b : Batch) (first : ℕ) (e :
           accept-past h =
               accept-made ∙ rw (le-ltb slot (r .sc .start) f, le-ltb ballot (r .sc .«bal_max_seen») g, le-leb (r .sc .start + 64) slot h)
 
-          pub accept-goes : (w : Window) (d : Decided) → slot < r .sc .start + 64 → w ≡ grownIn (r .window) (place (r .sc) slot + 1)
+          pub accept-goes : (w : Window) (d : Decided) → slot < r .sc .start + 64 → w ≡ filledIn nullSlot (r .window) (place (r .sc) slot + 1)
               → d ≡ decideAccept (r .sc) (slotAt w (place (r .sc) slot)) peer slot ballot (m .batch)
               → acceptStep r n peer slot ballot b ≡ settled r w (place (r .sc) slot) slot d
           accept-goes w d h q v =
               accept-made
-              ∙ rw (le-ltb slot (r .sc .start) f, le-ltb ballot (r .sc .«bal_max_seen») g, lt-leb (r .sc .start + 64) slot h, ← grown-in (r .window) (place (r .sc) slot + 1) (omega arith), ← q, ← v)
+              ∙ rw (le-ltb slot (r .sc .start) f, le-ltb ballot (r .sc .«bal_max_seen») g, lt-leb (r .sc .start + 64) slot h, ← filled-in nullSlot (r .window) (place (r .sc) slot + 1) (omega arith), ← q, ← v)
 
 -- ── AcceptReply ──
 

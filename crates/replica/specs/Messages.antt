@@ -1,10 +1,9 @@
 -- 000, messages.rs: Prepare, PrepareReply, Accept, AcceptReply. Each test stands in 01's order of answers.
-use mathlib.Core.Bool.{Bool, true, false, not, _&&_, _||_}
+use mathlib.Core.Bool.{Bool, true, not, _&&_}
 use mathlib.Core.List.{List, [], _∷_, _++_}
-use Prim.Native.Nat.{ℕ, _+_, _-_}
+use Prim.Native.Nat.{ℕ, _+_}
 use lib.Dec.{ltb, leb, eqb}
 use Rattle.base.specs.Pick.{pick, larger}
-use Rattle.base.specs.Over.{over}
 use Rattle.base.specs.Gather.{gather}
 use Rattle.base.specs.Find.{any}
 use Rattle.members.specs.Ballots.{owns}
@@ -12,9 +11,9 @@ use Rattle.batch.specs.declared.Batch.{Batch}
 use Rattle.batch.specs.Batches.{isBatch, makeBatch}
 use Rattle.actions.specs.declared.Action.the-variants.{StatusDown}
 use Rattle.actions.specs.Actions.{Act, bare}
-use Rattle.slots.specs.declared.Vote.{Vote}
 use Rattle.slots.specs.declared.ReplicaBook.{ReplicaBook}
-use Rattle.slots.specs.Slots.{newBook, noSlot, preparedSlot, appendedSlot, enteredSlot}
+use Rattle.slots.specs.declared.Slot.{Slot}
+use Rattle.slots.specs.Slots.{newBook, preparedSlot, appendedSlot, enteredSlot}
 use Rattle.decide.specs.declared.Scalars.{Scalars}
 use Rattle.decide.specs.declared.Decided.{Decided}
 use Rattle.decide.specs.declared.Reply.{Reply}
@@ -23,7 +22,7 @@ use Rattle.decide.specs.Bars.{withBar, withFallen}
 use Rattle.decide.specs.Decide.{decideAccept, decideAcceptReply, awaitsPrepare, decideVote, isCounted, decideCount}
 use Rattle.decide.specs.PrepareReply.{inLog, withVoted}
 use Rattle.window.specs.declared.Window.{Window}
-use Rattle.window.specs.Window.{slotAt, putSlot, grown, sweep, lastUsed}
+use Rattle.window.specs.Window.{slotAt, putSlot, filled, grown, sweep, lastUsed}
 use Rattle.window.specs.Acts.{promise, enterActs}
 use Rattle.replica.specs.declared.Replica.{Replica}
 use Rattle.replica.specs.Record.{Outcome, kept, noting, settled, withWindow, place, number, logEnd}
@@ -67,13 +66,12 @@ prepareStep r room peer trigger ballot =
     (prepareOn r (grown (r .window) (place (r .sc) trigger + 1)) (place (r .sc) trigger) peer ballot))))))
 
 -- ── PrepareReply ──
--- "past the log end it appends slots, and logs them"
-unfoldable pub appended : Replica → ℕ → ℕ → Window
-appended r j i =
-    record {
-      len = larger (r .window .len) (i + 1);
-      slots = over (λ k s. appendedSlot (r .sc .«bal_prep_sent») (newBook (number (r .sc) j) (slotAt (r .window) j .leader .endprep))) noSlot (r .window .len) (i + 1) (r .window .slots);
-    }
+-- "past the log end it appends slots, and logs them": the slot, and the window with it up to place i
+abbrev pub appendedAs : Replica → ℕ → Slot
+appendedAs r j = appendedSlot (r .sc .«bal_prep_sent») (newBook (number (r .sc) j) (slotAt (r .window) j .leader .endprep))
+
+abbrev pub appended : Replica → ℕ → ℕ → Window
+appended r j i = filled (appendedAs r j) (r .window) (i + 1)
 
 abbrev pub appendActs : Replica → ℕ → List Act
 appendActs r i = gather (λ k. promise (number (r .sc) k) (r .sc .«bal_prep_sent») ∷ []) (r .window .len) (i + 1)

@@ -1,6 +1,5 @@
 -- The replica's record: slots by place and number, a fresh one, and what a call gives.
-use mathlib.Core.Path.{_≡_}
-use mathlib.Core.Bool.{Bool, true, false, not, _&&_, _||_}
+use mathlib.Core.Bool.{Bool, false, not, _&&_}
 use mathlib.Core.List.{List, []}
 use Prim.Native.Nat.{ℕ, _+_, _-_}
 use lib.Dec.{eqb}
@@ -11,7 +10,6 @@ use Rattle.batch.specs.Keys.{emptyTable, refresh, overfull}
 use Rattle.tally.specs.Open.{noReads}
 use Rattle.actions.specs.Actions.{Act, saysActs}
 use Rattle.decide.specs.declared.Scalars.{Scalars}
-use Rattle.decide.specs.declared.PeerBars.{PeerBars}
 use Rattle.decide.specs.declared.Decided.{Decided}
 use Rattle.decide.specs.Scalars.{nobody, unknownBar, mayBe}
 use Rattle.decide.specs.Bars.{unknownBars}

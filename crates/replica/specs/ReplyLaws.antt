@@ -8,8 +8,8 @@ use lib.Dec.{ltb, leb, eqb}
 use lib.ListN.{length, length-append}
 use lib.Seq.{getD-set-same, getD-set-other, set-getD}
 use borrow.Author.Tests.{not-true, not-false, lt-ltb, le-ltb, le-leb, lt-leb, eq-eqb, ne-eqb, eqb-true, eqb-false}
-use Rattle.base.specs.Pick.{pick, larger-left, pick-both, pick-cases}
-use Rattle.base.specs.Over.{over-self, length-over}
+use Rattle.base.specs.Pick.{pick, pick-both, pick-cases}
+use Rattle.base.specs.Over.{over-self}
 use Rattle.base.specs.Gather.{gather, gather-self}
 use Rattle.batch.specs.declared.Batch.{Batch}
 use Rattle.batch.specs.declared.Made.{Made}
@@ -34,21 +34,21 @@ use Rattle.decide.specs.PrepareReply.{withVoted}
 use Rattle.decide.specs.Weighing.{unmoved, weighedCount, weighedVote, weighed}
 use Rattle.window.specs.declared.Window.{Window}
 use Rattle.window.specs.declared.Placed.{Placed}
-use Rattle.window.specs.Window.{slotAt, putSlot, sweep, extended}
+use Rattle.window.specs.Window.{slotAt, putSlot, sweep, filled}
 use Rattle.window.specs.Acts.{enterActs}
 use Rattle.window.specs.Sweeps.{Ranged, SweptIn, PromisesIn}
-use Rattle.window.specs.Bounded.{extendedIn}
-use Rattle.window.specs.BoundedLaws.{extended-in}
+use Rattle.window.specs.Bounded.{filledIn}
+use Rattle.window.specs.BoundedLaws.{filled-in}
+use Rattle.window.specs.Places.{filled-long, filled-low, filled-most}
 use Rattle.window.specs.RangeLaws.{swept-in, promised-in}
 use Rattle.replica.specs.declared.Replica.{Replica}
 use Rattle.replica.specs.Record.{Outcome, kept, noting, withWindow, place, number}
-use Rattle.replica.specs.Messages.{appended, appendActs, countedOn, votedOn, repliedOn, inRange, orKept, replyOn, cleanReply, prepareReplyStep}
+use Rattle.replica.specs.Messages.{appended, appendActs, countedOn, votedOn, repliedOn, inRange, orKept, replyOn, cleanReply, prepareReplyStep, appendedAs}
 use Rattle.replica.specs.Step.{Told}
 use Rattle.replica.specs.Admit.{fromPeer}
 use Rattle.replica.specs.AdmitLaws.{gate-peer, peer-facts}
 use Rattle.replica.specs.ActingLaws.{acted, noting-passes, noting-full, noting-acts}
 use Rattle.replica.specs.Replying.{ReplyFits, PlacesFit, sweptTo, placed, carried, replyAt}
-use Rattle.replica.specs.AppendLaws.{extended-appended, appended-within}
 
 -- one test on both sides
 pick-meet : {A B C : Type 0} (f : A → C) (g : B → C) (t : Bool) {x y : A} {a b : B} → (t ≡ true → f x ≡ g a) → (t ≡ false → f y ≡ g b)
@@ -203,14 +203,7 @@ fallen-start : (sc : Scalars) (b : PeerBars) (peer bar : ℕ) → withFallen sc 
 fallen-start sc b peer bar = ap (λ (x : Scalars). x .start) (fallen-is sc b peer bar .2)
 
 length-appended : (r : Replica) (j i : ℕ) → length (appended r j i .slots) ≡ length (r .window .slots)
-unfolding appended
-length-appended r j i =
-    length-over (λ k s. appendedSlot (r .sc .«bal_prep_sent») (newBook (number (r .sc) j) (slotAt (r .window) j .leader .endprep))) noSlot (r .window .len) (i + 1)
-    (r .window .slots)
-
-appended-keeps : (r : Replica) (j i : ℕ) → r .window .len ≤ appended r j i .len
-unfolding appended
-appended-keeps r j i = larger-left (r .window .len) (i + 1)
+length-appended r j i = filled-long (appendedAs r j) (r .window) (i + 1)
 
 -- the slot at place i and its trigger at place j: the appended window, the scalars with a bar that fell, and what was weighed of them
 module _ (r : Replica) (peer : ℕ) (m : Reply) (i j : ℕ) (w : Window) (fallen : Scalars) (g : Weighed) where
@@ -221,18 +214,18 @@ module _ (r : Replica) (peer : ℕ) (m : Reply) (i j : ℕ) (w : Window) (fallen
     pub here : i < length (r .window .slots)
 
   pub weighs-read : {book : LeaderBook} → book ≡ newBook (number (r .sc) j) (slotAt (r .window) j .leader .endprep)
-      → w ≡ extendedIn (r .window) (i + 1) (r .sc .«bal_prep_sent») book → i < 64 → fallen ≡ withFallen (r .sc) (r .bars) peer (m .bar)
+      → w ≡ filledIn (appendedSlot (r .sc .«bal_prep_sent») book) (r .window) (i + 1) → i < 64 → fallen ≡ withFallen (r .sc) (r .bars) peer (m .bar)
       → g ≡ weighed fallen (slotAt w i) (slotAt w j) (eqb i j) peer m → i < length (r .window .slots) → Weighs
   weighs-read {book} b e s f h l =
-      record { window = e ∙ extended-in (r .window) (i + 1) (r .sc .«bal_prep_sent») book (omega arith) ∙ ap (extended (r .window) (i + 1) (r .sc .«bal_prep_sent»)) b ∙ extended-appended r j i; scalars = f; weighs = h; here = l }
+      record { window = e ∙ filled-in _ (r .window) (i + 1) (omega arith) ∙ ap (λ (x : LeaderBook). filled (appendedSlot (r .sc .«bal_prep_sent») x) (r .window) (i + 1)) b; scalars = f; weighs = h; here = l }
 
   module _ (e : Weighs) where
     -- the sweep into Accept has room
     enter-fits : {room mid : List ℕ} {k to : ℕ} → PlacesFit r room i j → to ≡ sweptTo w j g → k ≡ 0 + (i + 1 - r .window .len) → 3456 ≤ length mid
         → Ranged j to k mid (r .sc .start)
     enter-fits {room} {mid} {k} {to} f t n l =
-        let a : w .len ≤ 64 = rw (e .window) (appended-within r j i (f .within) (f .place)) in
-        let b : r .window .len ≤ w .len = rw (e .window) (appended-keeps r j i) in
+        let a : w .len ≤ 64 = rw (e .window) (filled-most (appendedAs r j) (r .window) (i + 1) 64 (f .within) (omega (arith, f .place))) in
+        let b : r .window .len ≤ w .len = rw (e .window) (filled-low (appendedAs r j) (r .window) (i + 1)) in
         let lo : j ≤ sweptTo w j g = pick-both (λ (x : ℕ). j ≤ x) (g .enters) (omega (arith, f .trigger)) (omega arith) in
         let hi : sweptTo w j g ≤ 64 = pick-both (λ (x : ℕ). x ≤ 64) (g .enters) a (omega (arith, f .trigger, f .within)) in
         record { ordered = omega arith; within = omega arith; places = omega (arith, f .place, f .trigger); long = l; low = f .low }

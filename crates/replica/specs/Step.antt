@@ -1,6 +1,6 @@
 -- Every call as one data type, what each does as one match, what a call hands back of it, and how a message sent becomes a call.
 use mathlib.Core.Path.{_≡_}
-use mathlib.Core.Bool.{Bool, true, false}
+use mathlib.Core.Bool.{Bool}
 use mathlib.Core.List.{List, [], _∷_}
 use Prim.Native.Nat.{ℕ}
 use lib.Dec.{ltb}

@@ -1,11 +1,11 @@
 -- Laws of one slot: what makes it fit, and that every change keeps it so.
 use mathlib.Core.Path.{_≡_, refl, sym, _∙_}
-use mathlib.Core.Bool.{Bool, true, false, _&&_, _||_, and-false}
+use mathlib.Core.Bool.{Bool, true, false, _||_, and-false}
 use Prim.Native.Nat.{ℕ, _≤_, _<_}
 use native.Mathlib.Omega.{arith}
 use lib.Dec.{ltb, leb, eqb}
 use borrow.Author.Tests.{le-leb, lt-leb, leb-true}
-use Rattle.base.specs.Pick.{pick, pick-both, and-left, and-right, and-make}
+use Rattle.base.specs.Pick.{pick-both, and-left, and-right, and-make}
 use Rattle.members.specs.Sets.{fitsGroup}
 use Rattle.members.specs.Laws.{within-none, within-insert}
 use Rattle.batch.specs.declared.Batch.{Batch}

@@ -1,6 +1,6 @@
 // The table of open reads, and one reply to one of them (quorumread.rs, handle_msg_read_query_reply).
 ghost use mathlib.Core.Path.{_≡_};
-ghost use Rattle.tally.specs.Open.{nothingKnown, newRead, nullRead, noReads, findRead, openRead, closeRead, putRead, fitRead, fitReads, withTally, withAck, smaller, stays, replaced, weighed, counted, replyTo, staysOpen};
+ghost use Rattle.tally.specs.Open.{nothingKnown, newRead, noReads, findRead, openRead, closeRead, putRead, fitRead, fitReads, withTally, withAck, smaller, stays, replaced, weighed, counted, replyTo, staysOpen};
 use crate::Best;
 use crate::KeyBest;
 use crate::Merged;

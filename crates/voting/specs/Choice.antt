@@ -11,9 +11,11 @@ use Rattle.base.specs.Pick.{pick-both, pick-cases, and-both}
 use Rattle.base.specs.Among.{All, all-append}
 use Rattle.slots.specs.declared.Vote.{Vote}
 use Rattle.slots.specs.declared.Slot.{Slot}
-use Rattle.slots.specs.Slots.{newBook, redoneSlot, withState, withLeader, withExternal, committed, executed, preparing}
+use Rattle.slots.specs.Slots.{newBook, redoneSlot, withState, withLeader, withExternal, committed, executed, preparing, nullSlot}
 use Rattle.decide.specs.declared.Reply.{Reply}
 use Rattle.window.specs.Window.{firstOpen}
+use Rattle.window.specs.Places.{size, filled-long, filled-most}
+use Rattle.window.specs.ByPlace.{atPlace, sweep-cases, grown-at, at-past}
 use Rattle.replica.specs.declared.Replica.{Replica}
 use Rattle.replica.specs.declared.Done.{Done}
 use Rattle.replica.specs.declared.Entry.the-variants.{PrepareBal}
@@ -21,8 +23,6 @@ use Rattle.replica.specs.Record.{place}
 use Rattle.replica.specs.Messages.{cleanReply}
 use Rattle.replica.specs.Step.{Call, callPrepareReply, callTimeout, callLogged, step}
 use Rattle.laws.specs.OfFit.{fit-facts}
-use Rattle.laws.specs.Windows.{size, grown-long, grown-most}
-use Rattle.laws.specs.ByPlace.{atPlace, sweep-cases, grown-at, at-past}
 use Rattle.laws.specs.WaysLeadership.{leadWindow, leadTrigger, leadEnd, leadFrom, led, Leads, timeoutStep-ways, leads-up}
 use Rattle.laws.specs.WaysDurability.{logged}
 use Rattle.voting.specs.Paper.{Choice}
@@ -116,7 +116,7 @@ step-up-unheard r room source s g st =
         let at = grown-at (r .window) (firstOpen (r .window) + 1) (place (r .sc) s) (omega (arith, f .room)) in
         let low : atPlace (leadWindow r) (place (r .sc) s) .ballot ≤ r .sc .«bal_max_seen» = omega (arith, ap (λ (x : Slot). x .ballot) at, g .slots (place (r .sc) s)) in
         let long : leadWindow r .len ≤ size (leadWindow r) =
-        omega (arith, grown-long (r .window) (firstOpen (r .window) + 1), g .whole, grown-most (r .window) (firstOpen (r .window) + 1) 64 (fit-facts r (f .fits) .numbers .window) (omega (arith, f .room))) in
+        omega (arith, filled-long nullSlot (r .window) (firstOpen (r .window) + 1), g .whole, filled-most nullSlot (r .window) (firstOpen (r .window) + 1) 64 (fit-facts r (f .fits) .numbers .window) (omega (arith, f .room))) in
         sweep-cases (λ i x. redoneSlot b (newBook (leadTrigger r) (leadEnd r)) x) (leadFrom r) (leadWindow r .len) (leadWindow r)
         (λ (x : Slot). x .ballot ≡ b → (x .leader .«prepare_max_bal» ≡ 0) × (x .batch ≡ atPlace (r .window) (place (r .sc) s) .batch)) (place (r .sc) s) long
         (λ x y z e.

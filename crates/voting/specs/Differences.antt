@@ -20,13 +20,13 @@ use Rattle.decide.specs.declared.Reply.{Reply}
 use Rattle.decide.specs.Scalars.{leads, isPeer, fitScalars}
 use Rattle.decide.specs.Bars.{notAbove, leastMajority, withBar, withFallen}
 use Rattle.decide.specs.Decide.{decideAccept, decideAcceptReply, decideVote, decideCount, decidePromised, decideAccepted, decideOffer}
-use Rattle.window.specs.Window.{slotAt, grown, fitSlots, lastUsed, firstOpen, lastOpen}
+use Rattle.window.specs.Window.{slotAt, fitSlots, lastUsed, firstOpen, lastOpen, filled}
 use Rattle.window.specs.Acts.{redoActs}
 use Rattle.replica.specs.declared.Replica.{Replica}
 use Rattle.replica.specs.declared.Entry.the-variants.{PrepareBal, AcceptData}
 use Rattle.replica.specs.Record.{kept, newReplica, noting, settled, number}
 use Rattle.replica.specs.Fit.{ready, fit}
-use Rattle.replica.specs.Messages.{prepareOn, prepareStep, appended, countedOn, votedOn, repliedOn, replyOn, prepareReplyStep, acceptStep, acceptReplyStep, clean}
+use Rattle.replica.specs.Messages.{prepareOn, prepareStep, countedOn, votedOn, repliedOn, replyOn, prepareReplyStep, acceptStep, acceptReplyStep, clean}
 use Rattle.replica.specs.Leadership.{leadOn, stepUp, timeoutStep}
 use Rattle.replica.specs.Durability.{preparedDone, movedAccept, acceptedDone, passOn, passStop, committedDone, loggedOn, loggedStep}
 use Rattle.replica.specs.Added.{offerStep}
@@ -228,5 +228,5 @@ differences =
     ∷ []
 
 pub differences-hold : T (all-go differences)
-unfolding all-go differences goes newReplica fit fitScalars fitSlots fitReads fitSlot grown noting settled prepareOn prepareStep lastUsed appended countedOn votedOn repliedOn replyOn prepareReplyStep acceptStep acceptReplyStep firstOpen lastOpen leadOn stepUp timeoutStep preparedDone movedAccept acceptedDone passOn passStop committedDone loggedOn loggedStep offerStep decideAccept decideAcceptReply decideVote decideCount decidePromised decideAccepted decideOffer notAbove leastMajority withBar withFallen has insert count countIn makeBatch noteKey noteKeys newKeys placeIn overfullIn scan
+unfolding all-go differences goes newReplica fit fitScalars fitSlots fitReads fitSlot filled noting settled prepareOn prepareStep lastUsed countedOn votedOn repliedOn replyOn prepareReplyStep acceptStep acceptReplyStep firstOpen lastOpen leadOn stepUp timeoutStep preparedDone movedAccept acceptedDone passOn passStop committedDone loggedOn loggedStep offerStep decideAccept decideAcceptReply decideVote decideCount decidePromised decideAccepted decideOffer notAbove leastMajority withBar withFallen has insert count countIn makeBatch noteKey noteKeys newKeys placeIn overfullIn scan
 differences-hold = tt

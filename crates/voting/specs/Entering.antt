@@ -19,17 +19,17 @@ use Rattle.decide.specs.Decide.{proposal}
 use Rattle.window.specs.declared.Window.{Window}
 use Rattle.window.specs.Window.{slotAt}
 use Rattle.window.specs.Acts.{promise, enterActs}
+use Rattle.window.specs.ByPlace.{atPlace, sweep-at, at-here}
 use Rattle.replica.specs.declared.Replica.{Replica}
 use Rattle.replica.specs.declared.Done.{Done}
 use Rattle.replica.specs.Record.{place, number}
 use Rattle.replica.specs.Messages.{cleanReply}
 use Rattle.replica.specs.Step.{callPrepareReply, callLogged, step}
 use Rattle.laws.specs.OfFit.{fit-facts}
-use Rattle.laws.specs.Windows.{appended-most}
 use Rattle.laws.specs.Counts.{counted-long}
-use Rattle.laws.specs.ByPlace.{atPlace, sweep-at, at-here}
 use Rattle.laws.specs.WaysReply.{replyWindow, heardWindow, countedWindow, Answers, reply-place}
 use Rattle.laws.specs.WaysDurability.{Logs, logged, other-entry}
+use Rattle.laws.specs.Appended.{appended-most}
 use Rattle.voting.specs.Windows.{Whole, whole-put}
 use Rattle.voting.specs.Claims.{Claim, of}
 use Rattle.voting.specs.Replying.{enteredWindow, entersActs, replyActs, ReplyWays, prepare-reply-way}

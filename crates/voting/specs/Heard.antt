@@ -15,6 +15,7 @@ use Rattle.decide.specs.declared.Reply.{Reply}
 use Rattle.decide.specs.Scalars.{leads}
 use Rattle.decide.specs.Decide.{awaitsPrepare}
 use Rattle.window.specs.Window.{slotAt}
+use Rattle.window.specs.ByPlace.{atPlace}
 use Rattle.replica.specs.declared.Replica.{Replica}
 use Rattle.replica.specs.declared.Done.{Done}
 use Rattle.replica.specs.declared.Entry.{Entry}
@@ -22,7 +23,6 @@ use Rattle.replica.specs.declared.Entry.the-variants.{PrepareBal, AcceptData, C
 use Rattle.replica.specs.Record.{place}
 use Rattle.replica.specs.Messages.{cleanReply}
 use Rattle.replica.specs.Step.{Call, callPrepare, callPrepareReply, callAccept, callAcceptReply, callCommitNotice, callTimeout, callLogged, callOffer, callExecuted, callOpenRead, callReadReply}
-use Rattle.laws.specs.ByPlace.{atPlace}
 use Rattle.laws.specs.WaysReply.{replySlot}
 use Rattle.laws.specs.WaysDurability.{logged}
 use Rattle.voting.specs.Paper.{Highest, Choice}

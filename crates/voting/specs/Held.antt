@@ -21,6 +21,7 @@ use Rattle.decide.specs.Scalars.{leads, followed, withBallots}
 use Rattle.decide.specs.Decide.{decideOffer, awaitsPrepare}
 use Rattle.window.specs.declared.Window.{Window}
 use Rattle.window.specs.Window.{slotAt, putSlot}
+use Rattle.window.specs.ByPlace.{atPlace, put-keeps, put-at, put-elsewhere, sweep-keeps, grown-at, at-here, at-past}
 use Rattle.replica.specs.declared.Replica.{Replica}
 use Rattle.replica.specs.declared.Done.{Done}
 use Rattle.replica.specs.declared.Entry.{Entry}
@@ -31,13 +32,12 @@ use Rattle.replica.specs.Durability.{entryNumber, passStop, loggedOn}
 use Rattle.replica.specs.Added.{movedExec}
 use Rattle.replica.specs.Step.{Call, callPrepare, callPrepareReply, callAccept, callAcceptReply, callCommitNotice, callTimeout, callLogged, callOffer, callExecuted, callOpenRead, callReadReply, step}
 use Rattle.laws.specs.OfFit.{fit-facts}
-use Rattle.laws.specs.Windows.{appended-long, appended-has, appended-most}
-use Rattle.laws.specs.ByPlace.{atPlace, put-keeps, put-at, put-elsewhere, sweep-keeps, grown-at, appended-cases, at-here, at-past}
 use Rattle.laws.specs.WaysMessages.{prepareWindow, prepareEnd, prepareStep-ways, Accepts, acceptStep-ways, acceptReplyStep-ways}
 use Rattle.laws.specs.WaysReply.{replyWindow, replySlot, heardSlot, heardWindow, countedWindow, Answers, Heard, Unheard, reply-place}
 use Rattle.laws.specs.WaysLeadership.{timeoutStep-ways, markWindow, markFrom, markEnd, commitNoticeStep-ways, leads-up}
 use Rattle.laws.specs.WaysDurability.{logged, loggedAt, OwnReply, passFrom, other-entry}
 use Rattle.laws.specs.WaysAdded.{offerWindow, offerStep-ways, executedStep-ways}
+use Rattle.laws.specs.Appended.{appended-long, appended-has, appended-most, appended-cases}
 use Rattle.voting.specs.Windows.{Whole, whole-put}
 use Rattle.voting.specs.Keeping.{entered-keeps, marked-keeps, passed-keeps, executed-keeps, logged-keeps}
 use Rattle.voting.specs.Claims.{core, Claim, of, open-read-way, read-reply-way}

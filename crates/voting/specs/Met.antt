@@ -13,16 +13,16 @@ use Rattle.slots.specs.Slots.{fitSlot}
 use Rattle.decide.specs.Bars.{notAbove, leastMajority, withBar, withFallen}
 use Rattle.decide.specs.Decide.{decideAccept, decideVote, decideCount}
 use Rattle.decide.specs.Scalars.{fitScalars}
-use Rattle.window.specs.Window.{grown, fitSlots, firstOpen, lastOpen}
+use Rattle.window.specs.Window.{fitSlots, firstOpen, lastOpen, filled}
+use Rattle.window.specs.ByPlace.{atPlace}
 use Rattle.replica.specs.declared.Replica.{Replica}
 use Rattle.replica.specs.declared.Entry.the-variants.{PrepareBal}
 use Rattle.replica.specs.Record.{newReplica, noting, settled}
 use Rattle.replica.specs.Fit.{fit}
-use Rattle.replica.specs.Messages.{appended, countedOn, votedOn, repliedOn, replyOn, prepareReplyStep, acceptStep}
+use Rattle.replica.specs.Messages.{countedOn, votedOn, repliedOn, replyOn, prepareReplyStep, acceptStep}
 use Rattle.replica.specs.Leadership.{leadOn, stepUp, timeoutStep}
 use Rattle.replica.specs.Durability.{preparedDone, loggedOn, loggedStep}
 use Rattle.replica.specs.Step.{Call, callPrepareReply, callAccept, callTimeout, callLogged}
-use Rattle.laws.specs.ByPlace.{atPlace}
 use Rattle.voting.specs.History.{Lent, told, play}
 use Rattle.voting.specs.Reached.{Good, good-new}
 use Rattle.voting.specs.Votes.{voteOf, taken}
@@ -54,11 +54,11 @@ unfolding newReplica
 member-good = good-new 2 3 0 0 refl
 
 pub accepts-taken : numbersIn (taken member accepts 0) ≡ 257 ∷ 7 ∷ 258 ∷ 8 ∷ []
-unfolding accepts newReplica fit fitScalars fitSlots fitReads fitSlot grown noting settled acceptStep decideAccept makeBatch noteKey noteKeys newKeys placeIn overfullIn scan
+unfolding accepts newReplica fit fitScalars fitSlots fitReads fitSlot filled noting settled acceptStep decideAccept makeBatch noteKey noteKeys newKeys placeIn overfullIn scan
 accepts-taken = refl
 
 pub accepts-vote : numbersIn (voteOf (play member accepts) 0 ∷ []) ≡ 258 ∷ 8 ∷ []
-unfolding atPlace accepts newReplica fit fitScalars fitSlots fitReads fitSlot grown noting settled acceptStep decideAccept makeBatch noteKey noteKeys newKeys placeIn overfullIn scan
+unfolding atPlace accepts newReplica fit fitScalars fitSlots fitReads fitSlot filled noting settled acceptStep decideAccept makeBatch noteKey noteKeys newKeys placeIn overfullIn scan
 accepts-vote = refl
 
 -- ── the paper's acceptor does not answer a Prepare at the largest ballot it has answered; ours does (Differences, the first run) ──
@@ -75,7 +75,7 @@ answers =
     ∷ lend (callPrepareReply 3 (voting 0 0 257 4 7)) ∷ []
 
 pub reign-met : Reign stepped answers 0
-unfolding answers newReplica fit fitScalars fitSlots fitReads fitSlot grown noting settled appended countedOn votedOn repliedOn replyOn prepareReplyStep firstOpen lastOpen leadOn stepUp timeoutStep preparedDone loggedOn loggedStep decideVote decideCount notAbove leastMajority withBar withFallen has insert count countIn makeBatch noteKey noteKeys newKeys placeIn overfullIn scan
+unfolding answers newReplica fit fitScalars fitSlots fitReads fitSlot filled noting settled countedOn votedOn repliedOn replyOn prepareReplyStep firstOpen lastOpen leadOn stepUp timeoutStep preparedDone loggedOn loggedStep decideVote decideCount notAbove leastMajority withBar withFallen has insert count countIn makeBatch noteKey noteKeys newKeys placeIn overfullIn scan
 reign-met = (
   record { leading = refl; leads-on = refl; same = refl; here = inr refl },
   (
@@ -85,7 +85,7 @@ reign-met = (
 )
 
 pub heard-met : numbersIn (heardIn stepped answers 0) ≡ 3 ∷ 9 ∷ 5 ∷ 8 ∷ 4 ∷ 7 ∷ []
-unfolding answers newReplica fit fitScalars fitSlots fitReads fitSlot grown noting settled appended countedOn votedOn repliedOn replyOn prepareReplyStep firstOpen lastOpen leadOn stepUp timeoutStep preparedDone loggedOn loggedStep decideVote decideCount notAbove leastMajority withBar withFallen has insert count countIn makeBatch noteKey noteKeys newKeys placeIn overfullIn scan
+unfolding answers newReplica fit fitScalars fitSlots fitReads fitSlot filled noting settled countedOn votedOn repliedOn replyOn prepareReplyStep firstOpen lastOpen leadOn stepUp timeoutStep preparedDone loggedOn loggedStep decideVote decideCount notAbove leastMajority withBar withFallen has insert count countIn makeBatch noteKey noteKeys newKeys placeIn overfullIn scan
 heard-met = refl
 
 -- the largest of these is that at 5
@@ -93,7 +93,7 @@ pub best-met : numbersIn (best (record { ballot = 0; batch = batchOf 0 }) (voteA
 best-met = refl
 
 pub choice-met : numbersIn (heldAt stepped 0 ∷ heldAt (play stepped answers) 0 ∷ []) ≡ 0 ∷ 0 ∷ 5 ∷ 8 ∷ []
-unfolding atPlace answers newReplica fit fitScalars fitSlots fitReads fitSlot grown noting settled appended countedOn votedOn repliedOn replyOn prepareReplyStep firstOpen lastOpen leadOn stepUp timeoutStep preparedDone loggedOn loggedStep decideVote decideCount notAbove leastMajority withBar withFallen has insert count countIn makeBatch noteKey noteKeys newKeys placeIn overfullIn scan
+unfolding atPlace answers newReplica fit fitScalars fitSlots fitReads fitSlot filled noting settled countedOn votedOn repliedOn replyOn prepareReplyStep firstOpen lastOpen leadOn stepUp timeoutStep preparedDone loggedOn loggedStep decideVote decideCount notAbove leastMajority withBar withFallen has insert count countIn makeBatch noteKey noteKeys newKeys placeIn overfullIn scan
 choice-met = refl
 
 -- ── the leader's own entry makes the quorum: 1 and 3 have answered, and its own completion sends the Accept ──
@@ -104,12 +104,12 @@ unfoldable pub ownLast : List Lent
 ownLast = lend (callPrepareReply 1 (voting 0 0 257 3 9)) ∷ lend (callPrepareReply 3 (voting 0 0 257 4 7)) ∷ []
 
 pub own-reign-met : Reign stepped (ownLast ++ (ownEntry ∷ [])) 0
-unfolding ownLast newReplica fit fitScalars fitSlots fitReads fitSlot grown noting settled appended countedOn votedOn repliedOn replyOn prepareReplyStep firstOpen lastOpen leadOn stepUp timeoutStep preparedDone loggedOn loggedStep decideVote decideCount notAbove leastMajority withBar withFallen has insert count countIn makeBatch noteKey noteKeys newKeys placeIn overfullIn scan
+unfolding ownLast newReplica fit fitScalars fitSlots fitReads fitSlot filled noting settled countedOn votedOn repliedOn replyOn prepareReplyStep firstOpen lastOpen leadOn stepUp timeoutStep preparedDone loggedOn loggedStep decideVote decideCount notAbove leastMajority withBar withFallen has insert count countIn makeBatch noteKey noteKeys newKeys placeIn overfullIn scan
 own-reign-met = (
   record { leading = refl; leads-on = refl; same = refl; here = inr refl },
   (record { leading = refl; leads-on = refl; same = refl; here = inr refl }, (record { leading = refl; leads-on = refl; same = refl; here = inr refl }, tt)),
 )
 
 pub own-sends : map kindOf (told (play stepped ownLast) ownEntry .actions) ≡ 2 ∷ 6 ∷ []
-unfolding ownLast newReplica fit fitScalars fitSlots fitReads fitSlot grown noting settled appended countedOn votedOn repliedOn replyOn prepareReplyStep firstOpen lastOpen leadOn stepUp timeoutStep preparedDone loggedOn loggedStep decideVote decideCount notAbove leastMajority withBar withFallen has insert count countIn makeBatch noteKey noteKeys newKeys placeIn overfullIn scan
+unfolding ownLast newReplica fit fitScalars fitSlots fitReads fitSlot filled noting settled countedOn votedOn repliedOn replyOn prepareReplyStep firstOpen lastOpen leadOn stepUp timeoutStep preparedDone loggedOn loggedStep decideVote decideCount notAbove leastMajority withBar withFallen has insert count countIn makeBatch noteKey noteKeys newKeys placeIn overfullIn scan
 own-sends = refl

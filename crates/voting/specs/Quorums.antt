@@ -17,6 +17,8 @@ use Rattle.slots.specs.Slots.{committedSlot, acknowledgedSlot, committed, logge
 use Rattle.decide.specs.Scalars.{leads, quorum}
 use Rattle.window.specs.declared.Window.{Window}
 use Rattle.window.specs.Window.{slotAt, putSlot}
+use Rattle.window.specs.Places.{put-here}
+use Rattle.window.specs.ByPlace.{atPlace, put-at, at-here}
 use Rattle.replica.specs.declared.Replica.{Replica}
 use Rattle.replica.specs.declared.Done.{Done}
 use Rattle.replica.specs.declared.Entry.the-variants.{PrepareBal, AcceptData, CommitSlot as CommitEntry}
@@ -25,8 +27,6 @@ use Rattle.replica.specs.Fit.{fit}
 use Rattle.replica.specs.Durability.{loggedOn}
 use Rattle.replica.specs.Step.{callAcceptReply, callLogged, step}
 use Rattle.laws.specs.OfFit.{fit-facts}
-use Rattle.laws.specs.Windows.{put-here}
-use Rattle.laws.specs.ByPlace.{atPlace, put-at, at-here}
 use Rattle.laws.specs.WaysMessages.{acceptReplyStep-ways}
 use Rattle.laws.specs.WaysDurability.{logged, loggedAt, Logs, other-entry}
 use Rattle.voting.specs.Paper.{Majority, quorum-is-majority, majorities-meet, Chosen}

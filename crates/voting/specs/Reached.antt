@@ -9,6 +9,7 @@ use native.Mathlib.Omega.{arith}
 use lib.Dec.{ltb, leb}
 use borrow.Author.Tests.{ltb-true, ltb-false, eqb-true, le-ltb}
 use Rattle.base.specs.Pick.{pick-both, pick-cases, and-both}
+use Rattle.base.specs.Find.{any-nowhere}
 use Rattle.members.specs.Groups.{groupSize}
 use Rattle.members.specs.Ballots.{owns}
 use Rattle.members.specs.Laws.{next-given, next-owned, group-bounds}
@@ -16,13 +17,15 @@ use Rattle.batch.specs.declared.Batch.{Batch}
 use Rattle.batch.specs.Batches.{isBatch}
 use Rattle.batch.specs.Keys.{overfull}
 use Rattle.slots.specs.declared.Slot.{Slot}
-use Rattle.slots.specs.Slots.{newBook, redoneSlot, preparedSlot, enteredSlot, markedSlot, passedSlot, loggedSlot, committed, executed}
+use Rattle.slots.specs.Slots.{newBook, redoneSlot, preparedSlot, enteredSlot, markedSlot, passedSlot, loggedSlot, committed, executed, nullSlot}
 use Rattle.decide.specs.declared.Scalars.{Scalars}
 use Rattle.decide.specs.declared.Reply.{Reply}
 use Rattle.decide.specs.Scalars.{leads, isPeer, followed, withBallots, steppedUp, mayBe}
 use Rattle.decide.specs.Decide.{decideOffer}
 use Rattle.window.specs.declared.Window.{Window}
 use Rattle.window.specs.Window.{slotAt, putSlot, sweep, grown, noSlots, firstOpen}
+use Rattle.window.specs.Places.{filled-most, filled-has, sweep-long}
+use Rattle.window.specs.ByPlace.{atPlace, put-keeps, put-cases, sweep-keeps, sweep-cases, grown-at, at-here, at-past}
 use Rattle.replica.specs.declared.Replica.{Replica}
 use Rattle.replica.specs.declared.Made.{Made}
 use Rattle.replica.specs.declared.Done.{Done}
@@ -32,16 +35,14 @@ use Rattle.replica.specs.Messages.{clean, cleanReply, prepareBook}
 use Rattle.replica.specs.Durability.{passStop, loggedOn}
 use Rattle.replica.specs.Added.{movedExec}
 use Rattle.replica.specs.Step.{Call, callPrepare, callPrepareReply, callAccept, callAcceptReply, callCommitNotice, callTimeout, callLogged, callOffer, callExecuted, callOpenRead, callReadReply, step}
-use Rattle.laws.specs.OfBase.{any-nowhere}
 use Rattle.laws.specs.OfFit.{fit-facts}
-use Rattle.laws.specs.Windows.{grown-most, grown-has, top-within, sweep-long, appended-long}
 use Rattle.laws.specs.Counts.{heard-long, counted-long}
-use Rattle.laws.specs.ByPlace.{atPlace, put-keeps, put-cases, sweep-keeps, sweep-cases, grown-at, appended-cases, at-here, at-past}
 use Rattle.laws.specs.WaysMessages.{Peer, Prepares, prepareEnd, prepared, prepareStep-ways, Accepts, accepted, acceptStep-ways, acceptReplyStep-ways}
 use Rattle.laws.specs.WaysReply.{replyWindow, replySlot, heardWindow, countedWindow, Answers, reply-place}
 use Rattle.laws.specs.WaysLeadership.{leadWindow, leadTrigger, leadEnd, leadFrom, Leads, timeoutStep-ways, markWindow, markFrom, markEnd, marked, Marks, commitNoticeStep-ways, leads-up}
 use Rattle.laws.specs.WaysDurability.{logged, loggedAt, passFrom}
 use Rattle.laws.specs.WaysAdded.{Offers, offered, offerStep-ways, executedStep-ways}
+use Rattle.laws.specs.Appended.{top-within, appended-long, appended-cases}
 use Rattle.voting.specs.Windows.{Whole, whole-put, whole-sweep, whole-grown}
 use Rattle.voting.specs.Keeping.{entered-keeps, marked-keeps, passed-keeps, executed-keeps, logged-keeps, heard-keeps}
 use Rattle.voting.specs.History.{Lent, told, play}
@@ -87,7 +88,7 @@ follow sc w v peer ballot g p l h k =
     (λ t. re sc w v g h (λ i. let u = ltb-false (sc .«bal_max_seen») ballot t in omega (arith, k i)))
 
 worked-most : (r : Replica) (slot : ℕ) → fit r ≡ true → slot < r .sc .start + 64 → worked r slot .len ≤ 64
-worked-most r slot f u = grown-most (r .window) (place (r .sc) slot + 1) 64 (fit-facts r f .numbers .window) (omega arith)
+worked-most r slot f u = filled-most nullSlot (r .window) (place (r .sc) slot + 1) 64 (fit-facts r f .numbers .window) (omega arith)
 
 worked-at : (r : Replica) (slot j : ℕ) → Whole (r .window) → slot < r .sc .start + 64 → atPlace (worked r slot) j ≡ atPlace (r .window) j
 worked-at r slot j h u = grown-at (r .window) (place (r .sc) slot + 1) j (omega arith)
@@ -155,7 +156,7 @@ step-up-good r source b g f =
     let n = next-given (r .sc .«bal_max_seen») (r .sc .id) b (f .next) in
     let up : r .sc .«bal_max_seen» ≤ b = omega (arith, leads-up r source b f) in
     let w = whole-grown (r .window) (firstOpen (r .window) + 1) (g .whole) in
-    let k : leadWindow r .len ≤ 64 = grown-most (r .window) (firstOpen (r .window) + 1) 64 (fit-facts r (f .fits) .numbers .window) (omega (arith, f .room)) in
+    let k : leadWindow r .len ≤ 64 = filled-most nullSlot (r .window) (firstOpen (r .window) + 1) 64 (fit-facts r (f .fits) .numbers .window) (omega (arith, f .room)) in
     let at : (i : ℕ) → atPlace (leadWindow r) i .ballot ≤ r .sc .«bal_max_seen» =
     λ i. omega (arith, ap (λ (x : Slot). x .ballot) (grown-at (r .window) (firstOpen (r .window) + 1) i (omega (arith, f .room))), g .slots i) in
     record {
@@ -290,7 +291,7 @@ pub never-high : (r : Replica) (trigger ballot : ℕ) → Good (r .sc) (r .windo
 never-high r trigger ballot g u l =
     any-nowhere (λ i. ltb ballot (slotAt (worked r trigger) i .ballot)) (place (r .sc) trigger) (prepareEnd r trigger)
     (λ i a b.
-    let n = grown-has (r .window) (place (r .sc) trigger + 1) in
+    let n = filled-has nullSlot (r .window) (place (r .sc) trigger + 1) in
     let t = top-within (worked r trigger) (place (r .sc) trigger) (omega arith) in
     let e = ap (λ (x : Slot). x .ballot) (sym (at-here (worked r trigger) i (omega arith)) ∙ worked-at r trigger i (g .whole) u) in
     le-ltb ballot (slotAt (worked r trigger) i .ballot) (omega (arith, e, g .slots i)))
@@ -298,7 +299,7 @@ never-high r trigger ballot g u l =
 pub never-high-accept : (r : Replica) (slot ballot : ℕ) → Good (r .sc) (r .window) → slot < r .sc .start + 64 → r .sc .«bal_max_seen» ≤ ballot
     → acceptHigh r slot ballot ≡ false
 never-high-accept r slot ballot g u l =
-    let n = grown-has (r .window) (place (r .sc) slot + 1) in
+    let n = filled-has nullSlot (r .window) (place (r .sc) slot + 1) in
     let e = ap (λ (x : Slot). x .ballot) (sym (at-here (worked r slot) (place (r .sc) slot) (omega arith)) ∙ worked-at r slot (place (r .sc) slot) (g .whole) u) in
     le-ltb ballot (slotAt (worked r slot) (place (r .sc) slot) .ballot) (omega (arith, e, g .slots (place (r .sc) slot)))
 

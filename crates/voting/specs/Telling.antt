@@ -3,7 +3,7 @@ use mathlib.Core.Path.{_≡_, refl, sym, ap, subst, _∙_}
 use mathlib.Core.List.{List, [], _∷_, List·Memᴰ·head, List·Memᴰ·tail}
 use mathlib.Core.Bool.{false}
 use mathlib.Core.Logic.{_⊎_, inl, inr}
-use Prim.Native.Nat.{ℕ, _-_, _≤_, _<_}
+use Prim.Native.Nat.{ℕ, _≤_, _<_}
 use native.Mathlib.Omega.{arith}
 use Rattle.base.specs.Pick.{clash}
 use Rattle.base.specs.Among.{_∈_}
@@ -15,6 +15,7 @@ use Rattle.decide.specs.declared.Scalars.{Scalars}
 use Rattle.decide.specs.Scalars.{leads}
 use Rattle.decide.specs.Decide.{sentVote}
 use Rattle.window.specs.Window.{slotAt}
+use Rattle.window.specs.ByPlace.{atPlace, at-here}
 use Rattle.replica.specs.declared.Replica.{Replica}
 use Rattle.replica.specs.declared.Done.{Done}
 use Rattle.replica.specs.declared.Entry.the-variants.{PrepareBal, AcceptData, CommitSlot as CommitEntry}
@@ -22,7 +23,6 @@ use Rattle.replica.specs.Record.{place}
 use Rattle.replica.specs.Durability.{loggedOn}
 use Rattle.replica.specs.Step.{callLogged, step}
 use Rattle.laws.specs.OfFit.{fit-facts}
-use Rattle.laws.specs.ByPlace.{atPlace, at-here}
 use Rattle.laws.specs.WaysDurability.{Logs, loggedAt, other-entry}
 use Rattle.voting.specs.Paper.{Highest}
 use Rattle.voting.specs.Windows.{Whole}

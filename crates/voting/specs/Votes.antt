@@ -16,13 +16,15 @@ use Rattle.actions.specs.declared.Says.{Says}
 use Rattle.actions.specs.Actions.{saysActs}
 use Rattle.slots.specs.declared.Vote.{Vote}
 use Rattle.slots.specs.declared.Slot.{Slot}
-use Rattle.slots.specs.Slots.{noVote, newBook, redoneSlot, preparedSlot, enteredSlot, markedSlot, passedSlot, acceptedSlot, loggedSlot, withState, withLeader, withExternal, committed, executed, preparing}
+use Rattle.slots.specs.Slots.{noVote, newBook, redoneSlot, preparedSlot, enteredSlot, markedSlot, passedSlot, acceptedSlot, loggedSlot, withState, withLeader, withExternal, committed, executed, preparing, nullSlot}
 use Rattle.decide.specs.declared.Scalars.{Scalars}
 use Rattle.decide.specs.declared.Reply.{Reply}
 use Rattle.decide.specs.Scalars.{stepsDown, followed}
 use Rattle.decide.specs.Decide.{decideOffer}
 use Rattle.window.specs.declared.Window.{Window}
 use Rattle.window.specs.Window.{slotAt, putSlot, grown, firstOpen}
+use Rattle.window.specs.Places.{filled-has, filled-most}
+use Rattle.window.specs.ByPlace.{atPlace, put-keeps, put-at, put-elsewhere, sweep-keeps, grown-at, at-here, at-past}
 use Rattle.replica.specs.declared.Replica.{Replica}
 use Rattle.replica.specs.declared.Done.{Done}
 use Rattle.replica.specs.Record.{place}
@@ -32,13 +34,12 @@ use Rattle.replica.specs.Added.{movedExec}
 use Rattle.replica.specs.Step.{Call, callPrepare, callPrepareReply, callAccept, callAcceptReply, callCommitNotice, callTimeout, callLogged, callOffer, callExecuted, callOpenRead, callReadReply, step}
 use Rattle.laws.specs.OfScalars.{followed-seen}
 use Rattle.laws.specs.OfFit.{fit-facts}
-use Rattle.laws.specs.Windows.{grown-has, grown-most}
-use Rattle.laws.specs.ByPlace.{atPlace, put-keeps, put-at, put-elsewhere, sweep-keeps, grown-at, appended-cases, at-here, at-past}
 use Rattle.laws.specs.WaysMessages.{prepareWindow, prepareEnd, prepareStep-ways, Accepts, acceptStep-ways, acceptReplyStep-ways}
 use Rattle.laws.specs.WaysReply.{replyWindow, replySlot, heardWindow, countedWindow, Answers, reply-place}
 use Rattle.laws.specs.WaysLeadership.{leadWindow, leadTrigger, leadEnd, leadFrom, timeoutStep-ways, markWindow, markFrom, markEnd, commitNoticeStep-ways}
 use Rattle.laws.specs.WaysDurability.{logged, loggedAt, passFrom}
 use Rattle.laws.specs.WaysAdded.{Offers, offerWindow, offerStep-ways, executedStep-ways}
+use Rattle.laws.specs.Appended.{appended-cases}
 use Rattle.voting.specs.Windows.{Whole, whole-put, whole-grown}
 use Rattle.voting.specs.Keeping.{entered-keeps, marked-keeps, passed-keeps, executed-keeps, logged-keeps, heard-keeps}
 use Rattle.voting.specs.History.{Lent, told, play, acts}
@@ -144,7 +145,7 @@ log-votes r d h =
 offered-null : (r : Replica) (b : Batch) → Whole (r .window) → Offers r b → noVote ≡ slotAt (grown (r .window) (r .window .len + 1)) (r .window .len) .vote
 offered-null r b h f =
     ap vote (sym (at-past (r .window) (r .window .len) (le-refl (r .window .len))) ∙ sym (grown-at (r .window) (r .window .len + 1) (r .window .len) (omega (arith, f .room)))
-    ∙ at-here (grown (r .window) (r .window .len + 1)) (r .window .len) (omega (arith, grown-has (r .window) (r .window .len + 1))))
+    ∙ at-here (grown (r .window) (r .window .len + 1)) (r .window .len) (omega (arith, filled-has nullSlot (r .window) (r .window .len + 1))))
 
 -- a call that is no Accept
 abbrev pub noAccept : Call → Bool
@@ -216,9 +217,9 @@ took-it r peer slot ballot s b h l f = rw (says-some (r .sc) slot ballot b) (go 
         ≡ lastOf (voteOf r s) (pick (eqb slot s && true) (record { ballot = ballot; batch = clean b } ∷ []) [])
     go (inl e) =
         rw (e, eq-eqb slot slot refl)
-        (ap vote (put-at (worked r slot) (place (r .sc) slot) _ (omega (arith, grown-has (r .window) (place (r .sc) slot + 1)))
+        (ap vote (put-at (worked r slot) (place (r .sc) slot) _ (omega (arith, filled-has nullSlot (r .window) (place (r .sc) slot + 1)))
         (let n = whole-grown (r .window) (place (r .sc) slot + 1) h in
-        let k = grown-most (r .window) (place (r .sc) slot + 1) 64 (fit-facts r (f .fits) .numbers .window) (omega (arith, f .low, f .high)) in
+        let k = filled-most nullSlot (r .window) (place (r .sc) slot + 1) 64 (fit-facts r (f .fits) .numbers .window) (omega (arith, f .low, f .high)) in
         omega arith)))
     go (inr d) =
         rw (ne-eqb slot s (λ z. d (sym z)))

@@ -3,9 +3,10 @@ use mathlib.Core.Path.{_≡_, _∙_}
 use Prim.Native.Nat.{ℕ}
 use lib.ListN.{length}
 use Rattle.slots.specs.declared.Slot.{Slot}
+use Rattle.slots.specs.Slots.{nullSlot}
 use Rattle.window.specs.declared.Window.{Window}
 use Rattle.window.specs.Window.{putSlot, grown, sweep}
-use Rattle.laws.specs.Windows.{put-long, sweep-long, grown-long}
+use Rattle.window.specs.Places.{put-long, sweep-long, filled-long}
 
 abbrev pub Whole : Window → Type 0
 Whole w = length (w .slots) ≡ 64
@@ -17,4 +18,4 @@ pub whole-sweep : (f : ℕ → Slot → Slot) (from to : ℕ) (w : Window) → W
 whole-sweep f from to w h = sweep-long f from to w ∙ h
 
 pub whole-grown : (w : Window) (n : ℕ) → Whole w → Whole (grown w n)
-whole-grown w n h = grown-long w n ∙ h
+whole-grown w n h = filled-long nullSlot w n ∙ h

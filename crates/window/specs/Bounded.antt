@@ -5,16 +5,13 @@ use lib.Dec.{ltb, leb, eqb}
 use Rattle.base.specs.Pick.{pick}
 use Rattle.base.specs.Find.{any}
 use Rattle.base.specs.Scan.{scan}
-use Rattle.slots.specs.declared.LeaderBook.{LeaderBook}
+use Rattle.slots.specs.declared.Slot.{Slot}
 use Rattle.slots.specs.Slots.{executed}
 use Rattle.window.specs.declared.Window.{Window}
-use Rattle.window.specs.Window.{slotAt, grown, extended, fitSlots, lastUsed, lastOpen, passes}
+use Rattle.window.specs.Window.{slotAt, filled, fitSlots, lastUsed, lastOpen, passes}
 
-unfoldable pub grownIn : Window → ℕ → Window
-grownIn w n = pick (leb n 64) (grown w n) w
-
-unfoldable pub extendedIn : Window → ℕ → ℕ → LeaderBook → Window
-extendedIn w n ballot book = pick (leb n 64) (extended w n ballot book) w
+unfoldable pub filledIn : Slot → Window → ℕ → Window
+filledIn z w n = pick (leb n 64) (filled z w n) w
 
 unfoldable pub lastUsedIn : Window → ℕ
 lastUsedIn w = pick (leb (w .len) 64) (lastUsed w) 0

@@ -6,27 +6,19 @@ use lib.Dec.{ltb, eqb}
 use borrow.Author.Tests.{le-leb, lt-leb}
 use Rattle.base.specs.Find.{any}
 use Rattle.base.specs.Scan.{scan}
-use Rattle.slots.specs.declared.LeaderBook.{LeaderBook}
+use Rattle.slots.specs.declared.Slot.{Slot}
 use Rattle.window.specs.declared.Window.{Window}
-use Rattle.window.specs.Window.{slotAt, grown, extended, fitSlots, lastUsed, lastOpen, passes}
-use Rattle.window.specs.Bounded.{grownIn, extendedIn, lastUsedIn, lastOpenIn, anyAboveIn, stopIn, executedIn, fitIn}
+use Rattle.window.specs.Window.{slotAt, filled, fitSlots, lastUsed, lastOpen, passes}
+use Rattle.window.specs.Bounded.{filledIn, lastUsedIn, lastOpenIn, anyAboveIn, stopIn, executedIn, fitIn}
 
-module _ (w : Window) (n : ℕ) where
-  pub grown-in : n ≤ 64 → grownIn w n ≡ grown w n
-  unfolding grownIn
-  grown-in h = rw (le-leb n 64 h)
+module _ (z : Slot) (w : Window) (n : ℕ) where
+  pub filled-in : n ≤ 64 → filledIn z w n ≡ filled z w n
+  unfolding filledIn
+  filled-in h = rw (le-leb n 64 h)
 
-  pub grown-out : 64 < n → grownIn w n ≡ w
-  unfolding grownIn
-  grown-out h = rw (lt-leb n 64 h)
-
-  pub extended-in : (ballot : ℕ) (book : LeaderBook) → n ≤ 64 → extendedIn w n ballot book ≡ extended w n ballot book
-  unfolding extendedIn
-  extended-in ballot book h = rw (le-leb n 64 h)
-
-  pub extended-out : (ballot : ℕ) (book : LeaderBook) → 64 < n → extendedIn w n ballot book ≡ w
-  unfolding extendedIn
-  extended-out ballot book h = rw (lt-leb n 64 h)
+  pub filled-out : 64 < n → filledIn z w n ≡ w
+  unfolding filledIn
+  filled-out h = rw (lt-leb n 64 h)
 
 module _ (w : Window) where
   pub lastUsed-in : w .len ≤ 64 → lastUsedIn w ≡ lastUsed w

@@ -8,23 +8,22 @@ use native.Mathlib.Nat.{le-refl, eq-or-lt-of-le, add-zero, add-assoc}
 use native.Mathlib.Omega.{arith}
 use lib.Dec.{leb, ltb}
 use lib.ListN.{length, getD, set, length-append}
-use borrow.Author.Tests.{le-leb, lt-leb, lt-ltb, le-ltb, eq-eqb, ne-eqb}
-use Rattle.base.specs.Pick.{pick, larger, larger-left, pick-both, pick-cases, and-make, tests}
-use Rattle.base.specs.Over.{over, over-none, over-self, over-more, over-after}
+use borrow.Author.Tests.{le-leb, lt-leb, eq-eqb, ne-eqb}
+use Rattle.base.specs.Pick.{pick, and-make}
+use Rattle.base.specs.Over.{over, over-self, over-more, over-after}
 use Rattle.base.specs.Gather.{gather, gather-none, gather-self, gather-more}
 use Rattle.base.specs.Find.{any, any-none, any-self, last, last-more, last-below, search-found, search-more, search-done}
 use Rattle.base.specs.Scan.{scan, scanFor, scan-low, scan-high}
 use Rattle.actions.specs.declared.Action.the-variants.{AcceptData, Accept, CommitSlot, Execute}
 use Rattle.actions.specs.Actions.{Act, act, bare, writeAt, putAct}
 use Rattle.actions.specs.Laws.{write-none, write-then, put-in, length-put, room-start, room-turn}
-use Rattle.slots.specs.declared.LeaderBook.{LeaderBook}
 use Rattle.slots.specs.declared.Slot.{Slot}
-use Rattle.slots.specs.Slots.{noSlot, nullSlot, appendedSlot, fitSlot}
+use Rattle.slots.specs.Slots.{noSlot, fitSlot}
 use Rattle.decide.specs.Decide.{proposal}
 use Rattle.window.specs.declared.Window.{Window}
 use Rattle.window.specs.declared.Placed.{Placed}
 use Rattle.window.specs.declared.Turned.{Turned}
-use Rattle.window.specs.Window.{slotAt, grown, lastUsed, firstOpen, lastOpen, markStop, passes, extended, fitSlots}
+use Rattle.window.specs.Window.{slotAt, filled, lastUsed, firstOpen, lastOpen, markStop, passes, fitSlots}
 use Rattle.window.specs.Acts.{promise, enterActs, redoActs, markActs, passActs}
 use Rattle.window.specs.Sweeps.{TwoFit, Turns, Swept, Promises}
 
@@ -144,68 +143,26 @@ module _ (from k start ballot : ℕ) (room : List ℕ) where
 
 -- a loop that writes one value to each place from the window's end up to n
 module _ (z : Slot) (w : Window) where
-  abbrev pub filled : ℕ → Window
-  filled i = record { len = w .len; slots = over (λ j s. z) noSlot (w .len) i (w .slots) }
+  abbrev pub filling : ℕ → Window
+  filling i = record { len = w .len; slots = over (λ j s. z) noSlot (w .len) i (w .slots) }
 
-  pub fill-start : w ≡ filled (w .len)
+  pub fill-start : w ≡ filling (w .len)
   fill-start = rw (over-self (λ j s. z) noSlot (w .len) (w .slots))
 
-  pub fill-turn : (s : Window) (y : Slot) (i : ℕ) → w .len ≤ i → s ≡ filled i → y ≡ z → record { len = s .len; slots = set (s .slots) i y } ≡ filled (i + 1)
+  pub fill-turn : (s : Window) (y : Slot) (i : ℕ) → w .len ≤ i → s ≡ filling i → y ≡ z → record { len = s .len; slots = set (s .slots) i y } ≡ filling (i + 1)
   fill-turn s y i h e f = rw over-more (cc)
 
-  pub fill-done : (s : Window) (n i : ℕ) → s ≡ filled i → i ≡ n → _≡_ {A = Window} (record { len = n; slots = s .slots }) (record { len = n; slots = filled n .slots })
+  pub fill-done : (s : Window) (n i : ℕ) → s ≡ filling i → i ≡ n → _≡_ {A = Window} (record { len = n; slots = s .slots }) (record { len = n; slots = filling n .slots })
   fill-done s n i e h = cc
 
-pub grown-kept : (w : Window) (n : ℕ) → n ≤ w .len → w ≡ grown w n
-unfolding grown
-grown-kept w n h = rw (le-leb n (w .len) h)
+module _ (z : Slot) (w : Window) (n : ℕ) where
+  pub filled-kept : n ≤ w .len → w ≡ filled z w n
+  unfolding filled
+  filled-kept h = rw (le-leb n (w .len) h)
 
-pub grown-more : (w : Window) (n : ℕ) → w .len < n → record { len = n; slots = over (λ i s. nullSlot) noSlot (w .len) n (w .slots) } ≡ grown w n
-unfolding grown
-grown-more w n h = rw (lt-leb n (w .len) h)
-
-pub extended-kept : (w : Window) (n ballot : ℕ) (book : LeaderBook) → n ≤ w .len → w ≡ extended w n ballot book
-unfolding extended
-extended-kept w n ballot book h = rw (le-leb n (w .len) h)
-
-pub extended-more : (w : Window) (n ballot : ℕ) (book : LeaderBook) → w .len < n
-    → record { len = n; slots = over (λ i s. appendedSlot ballot book) noSlot (w .len) n (w .slots) } ≡ extended w n ballot book
-unfolding extended
-extended-more w n ballot book h = rw (lt-leb n (w .len) h)
-
-pub extended-filled : (w : Window) (n ballot : ℕ) (book : LeaderBook) (z : Slot) → z ≡ appendedSlot ballot book → w .len < n
-    → record { len = n; slots = filled z w n .slots } ≡ extended w n ballot book
-extended-filled w n ballot book z e h = rw e (extended-more w n ballot book h)
-
--- a grown window is as long as it was or as was asked for
-pub grown-len : (w : Window) (n : ℕ) → grown w n .len ≡ larger (w .len) n
-unfolding grown
-grown-len w n =
-    pick-cases (λ (x : Window). x .len ≡ larger (w .len) n) (leb n (w .len)) (λ t. rw (le-ltb (w .len) n (omega (arith, tests))))
-    (λ t. rw (lt-ltb (w .len) n (omega (arith, tests))))
-
-pub grown-within : (w : Window) (n : ℕ) → w .len ≤ 64 → n ≤ 64 → grown w n .len ≤ 64
-grown-within w n h q = rw grown-len (pick-both (λ (x : ℕ). x ≤ 64) (ltb (w .len) n) q h)
-
-pub grown-keeps : (w : Window) (n : ℕ) → w .len ≤ grown w n .len
-grown-keeps w n = rw grown-len (larger-left (w .len) n)
-
--- and so is one with slots appended
-pub extended-len : (w : Window) (n ballot : ℕ) (book : LeaderBook) → extended w n ballot book .len ≡ larger (w .len) n
-unfolding extended
-extended-len w n ballot book =
-    pick-cases (λ (x : Window). x .len ≡ larger (w .len) n) (leb n (w .len)) (λ t. rw (le-ltb (w .len) n (omega (arith, tests))))
-    (λ t. rw (lt-ltb (w .len) n (omega (arith, tests))))
-
-pub extended-slots : (w : Window) (n ballot : ℕ) (book : LeaderBook)
-    → extended w n ballot book .slots ≡ over (λ i s. appendedSlot ballot book) noSlot (w .len) n (w .slots)
-unfolding extended
-extended-slots w n ballot book =
-    pick-cases (λ (x : Window). x .slots ≡ over (λ i s. appendedSlot ballot book) noSlot (w .len) n (w .slots)) (leb n (w .len))
-    (λ t. sym (over-none (λ i s. appendedSlot ballot book) noSlot (w .len) n (w .slots) (omega (arith, tests)))) (λ t. refl)
-
-pub window-made : (w : Window) (n : ℕ) (l : List Slot) → w .len ≡ n → w .slots ≡ l → w ≡ record { len = n; slots = l }
-window-made w n l p q = rw (← p, ← q)
+  pub filled-more : (y : Slot) → y ≡ z → w .len < n → record { len = n; slots = filling y w n .slots } ≡ filled z w n
+  unfolding filled
+  filled-more y e h = rw (e, lt-leb n (w .len) h)
 
 -- ── searches ──
 -- a loop that finds the last: a turn of it

@@ -5,3 +5,5 @@ pub mod Laws
 pub mod Bounded
 pub mod BoundedLaws
 pub mod RangeLaws
+pub mod Places
+pub mod ByPlace

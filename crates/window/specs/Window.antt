@@ -7,9 +7,8 @@ use Rattle.base.specs.Pick.{pick}
 use Rattle.base.specs.Over.{over}
 use Rattle.base.specs.Find.{any, last}
 use Rattle.base.specs.Scan.{scan}
-use Rattle.slots.specs.declared.LeaderBook.{LeaderBook}
 use Rattle.slots.specs.declared.Slot.{Slot}
-use Rattle.slots.specs.Slots.{accepting, committed, nullSlot, noSlot, appendedSlot, fitSlot}
+use Rattle.slots.specs.Slots.{accepting, committed, nullSlot, noSlot, fitSlot}
 use Rattle.window.specs.declared.Window.{Window}
 
 -- 01: "Window of 64 slots from start_slot". The slot at a place
@@ -19,14 +18,13 @@ slotAt w i = getD (w .slots) i noSlot
 abbrev pub putSlot : Window → ℕ → Slot → Window
 putSlot w i s = record { len = w .len; slots = set (w .slots) i s }
 
--- "filling in null instances if needed": null slots up to n places; each is written null first, whatever stood there
-unfoldable pub grown : Window → ℕ → Window
-grown w n = pick (leb n (w .len)) w (record { len = n; slots = over (λ i s. nullSlot) noSlot (w .len) n (w .slots) })
+-- a slot z at each place from the log's end up to n; each is written first, whatever stood there
+unfoldable pub filled : Slot → Window → ℕ → Window
+filled z w n = pick (leb n (w .len)) w (record { len = n; slots = over (λ i s. z) noSlot (w .len) n (w .slots) })
 
--- slots appended up to n places
-unfoldable pub extended : Window → ℕ → ℕ → LeaderBook → Window
-extended w n ballot book =
-    pick (leb n (w .len)) w (record { len = n; slots = over (λ i s. appendedSlot ballot book) noSlot (w .len) n (w .slots) })
+-- "filling in null instances if needed"
+abbrev pub grown : Window → ℕ → Window
+grown w n = filled nullSlot w n
 
 -- f of each slot from one place up to another
 abbrev pub sweep : (ℕ → Slot → Slot) → ℕ → ℕ → Window → Window

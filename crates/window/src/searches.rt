@@ -1,8 +1,9 @@
 // Searches and growth of the window. It has 64 places: each function first tests that no more are asked for, and else does nothing.
 ghost use mathlib.Core.Path.{_≡_};
 ghost use Rattle.base.specs.Pick.{pick, larger};
+ghost use Rattle.slots.specs.Slots.{nullSlot, appendedSlot};
 ghost use Rattle.window.specs.Window.{noSlots};
-ghost use Rattle.window.specs.Bounded.{grownIn, extendedIn, lastUsedIn, lastOpenIn, anyAboveIn, stopIn, executedIn, fitIn};
+ghost use Rattle.window.specs.Bounded.{filledIn, lastUsedIn, lastOpenIn, anyAboveIn, stopIn, executedIn, fitIn};
 use super::Window;
 use slots::LeaderBook;
 use slots::appended_slot;
@@ -36,7 +37,7 @@ pub fn larger_of(a: usize, b: usize) -> usize
 impl Window {
     // Null slots up to n places.
     pub fn grow_to(mut self, n: usize) -> Window
-        ensures { λ r. ⌜ r ≡ grownIn self n ⌝ }
+        ensures { λ r. ⌜ r ≡ filledIn nullSlot self n ⌝ }
     {
         if 64 < n {
             return self;
@@ -55,7 +56,7 @@ impl Window {
 
     // Slots that a leader did not know at its step-up, up to n places.
     pub fn append(mut self, n: usize, ballot: u64, book: LeaderBook) -> Window
-        ensures { λ r. ⌜ r ≡ extendedIn self n ballot book ⌝ }
+        ensures { λ r. ⌜ r ≡ filledIn (appendedSlot ballot book) self n ⌝ }
     {
         if 64 < n {
             return self;

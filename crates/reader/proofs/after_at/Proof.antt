@@ -1,5 +1,4 @@
 use mathlib.Core.Path.{sym, _∙_}
-use native.Mathlib.Omega.{arith}
 use Rattle.reader.specs.Laws.{after-found, whole-fits}
 use borrow.Author.Needs.{needs}
 use Rattle.reader.proofs.after_at.Statement.{statement}

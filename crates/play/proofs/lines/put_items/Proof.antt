@@ -2,7 +2,6 @@ use Prim.Native.Nat.{_-_}
 use mathlib.Core.Path.{_≡_, refl}
 use native.Mathlib.Omega.{arith}
 use lib.ListN.{length}
-use denote.Ref.{now}
 use Rattle.play.specs.LineLaws.{Items, items-start, items-turn, items-all}
 use borrow.Author.Needs.{needs}
 use Rattle.play.proofs.lines.put_items.Statement.{statement}

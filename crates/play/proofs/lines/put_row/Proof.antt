@@ -1,5 +1,4 @@
 use native.Mathlib.Omega.{arith}
-use lib.ListN.{length}
 use denote.Ref.{now}
 use Rattle.play.specs.LineLaws.{row-past, row-fits}
 use borrow.Author.Needs.{needs}

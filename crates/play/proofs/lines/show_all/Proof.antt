@@ -1,8 +1,7 @@
 use Prim.Native.Nat.{_-_, _≤_, _/_}
-use mathlib.Core.Path.{_≡_, refl}
+use mathlib.Core.Path.{_≡_}
 use native.Mathlib.Omega.{arith}
 use lib.ListN.{length}
-use denote.Ref.{now}
 use Rattle.play.specs.Lines.{Shows, shown}
 use Rattle.play.specs.LineLaws.{shows-none, shows-more, shows-all}
 use borrow.Author.Needs.{needs}

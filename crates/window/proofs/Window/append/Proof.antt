@@ -1,5 +1,6 @@
-use Rattle.window.specs.Laws.{filled, fill-start, fill-turn, fill-done, extended-kept, extended-filled}
-use Rattle.window.specs.BoundedLaws.{extended-in, extended-out}
+use Rattle.slots.specs.Slots.{appendedSlot}
+use Rattle.window.specs.Laws.{filling, fill-start, fill-turn, fill-done, filled-kept, filled-more}
+use Rattle.window.specs.BoundedLaws.{filled-in, filled-out}
 use mathlib.Core.Path.{_≡_, refl, sym, _∙_}
 use Prim.Native.Nat.{_-_, _≤_}
 use native.Mathlib.Omega.{arith}
@@ -8,19 +9,19 @@ use Rattle.window.proofs.Window.append.Statement.{statement}
 use Rattle.window.proofs.Window.append.Tie as tie
 
 abbrev Inv-loop : tie.InvT-loop
-Inv-loop n ballot self₀ at new i₀ self i = (self ≡ filled new self₀ i) × ((self₀ .len ≤ i) × (i ≤ n))
+Inv-loop n ballot self₀ at new i₀ self i = (self ≡ filling new self₀ i) × ((self₀ .len ≤ i) × (i ≤ n))
 
 abbrev μ-loop : tie.MeasureT-loop
 μ-loop n ballot self₀ at new i₀ self i = n - i
 
 returns : tie.Need-returns Inv-loop μ-loop
-returns c = let a = c .before .args in sym (extended-out (a .t1) (a .n) (a .ballot) (a .book) (c .if1 .taken))
+returns c = let a = c .before .args in sym (filled-out (appendedSlot (a .ballot) (a .book)) (a .t1) (a .n) (c .if1 .taken))
 
 returns-2 : tie.Need-returns-2 Inv-loop μ-loop
 returns-2 c =
     let e = c .before in
     let a = e .before .args in
-    extended-kept (a .t1) (a .n) (a .ballot) (a .book) (c .if2 .taken) ∙ sym (extended-in (a .t1) (a .n) (a .ballot) (a .book) (e .if1 .left))
+    filled-kept (appendedSlot (a .ballot) (a .book)) (a .t1) (a .n) (c .if2 .taken) ∙ sym (filled-in (appendedSlot (a .ballot) (a .book)) (a .t1) (a .n) (e .if1 .left))
 
 appended-slot-requires : tie.Need-appended-slot-requires Inv-loop μ-loop
 appended-slot-requires c κs = search needs
@@ -54,8 +55,8 @@ returns-3 c =
     let e = n .before .before in
     let a = e .before .args in
     fill-done (n .appended-slot .result) (a .t1) _ (a .n) (l .i) (l .inv .0) (omega arith)
-    ∙ extended-filled (a .t1) (a .n) (a .ballot) (a .book) _ (n .appended-slot .ensures) (n .before .if2 .left)
-    ∙ sym (extended-in (a .t1) (a .n) (a .ballot) (a .book) (e .if1 .left))
+    ∙ filled-more (appendedSlot (a .ballot) (a .book)) (a .t1) (a .n) _ (n .appended-slot .ensures) (n .before .if2 .left)
+    ∙ sym (filled-in (appendedSlot (a .ballot) (a .book)) (a .t1) (a .n) (e .if1 .left))
 
 pub append-spec : {M : Type 1} → statement M
 append-spec =

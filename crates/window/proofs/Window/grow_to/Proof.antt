@@ -1,27 +1,27 @@
-use mathlib.Core.Path.{_≡_, sym, _∙_}
+use mathlib.Core.Path.{_≡_, refl, sym, _∙_}
 use Prim.Native.Nat.{_-_, _≤_}
 use native.Mathlib.Omega.{arith}
 use borrow.Author.Needs.{needs}
 use Rattle.slots.specs.Slots.{nullSlot}
-use Rattle.window.specs.Laws.{filled, fill-start, fill-turn, fill-done, grown-kept, grown-more}
-use Rattle.window.specs.BoundedLaws.{grown-in, grown-out}
+use Rattle.window.specs.Laws.{filling, fill-start, fill-turn, fill-done, filled-kept, filled-more}
+use Rattle.window.specs.BoundedLaws.{filled-in, filled-out}
 use Rattle.window.proofs.Window.grow_to.Statement.{statement}
 use Rattle.window.proofs.Window.grow_to.Tie as tie
 
 abbrev Inv-loop : tie.InvT-loop
-Inv-loop n self₀ at null i₀ self i = (self ≡ filled nullSlot self₀ i) × ((self₀ .len ≤ i) × (i ≤ n))
+Inv-loop n self₀ at null i₀ self i = (self ≡ filling nullSlot self₀ i) × ((self₀ .len ≤ i) × (i ≤ n))
 
 abbrev μ-loop : tie.MeasureT-loop
 μ-loop n self₀ at null i₀ self i = n - i
 
 returns : tie.Need-returns Inv-loop μ-loop
-returns c = let a = c .before .args in sym (grown-out (a .t1) (a .n) (c .if1 .taken))
+returns c = let a = c .before .args in sym (filled-out nullSlot (a .t1) (a .n) (c .if1 .taken))
 
 returns-2 : tie.Need-returns-2 Inv-loop μ-loop
 returns-2 c =
     let e = c .before in
     let a = e .before .args in
-    grown-kept (a .t1) (a .n) (c .if2 .taken) ∙ sym (grown-in (a .t1) (a .n) (e .if1 .left))
+    filled-kept nullSlot (a .t1) (a .n) (c .if2 .taken) ∙ sym (filled-in nullSlot (a .t1) (a .n) (e .if1 .left))
 
 null-slot-requires : tie.Need-null-slot-requires Inv-loop μ-loop
 null-slot-requires c κs = search needs
@@ -55,7 +55,7 @@ returns-3 c =
     let e2 = c .before .before .before in
     let e = e2 .before in
     let a = e .before .args in
-    fill-done nullSlot (a .t1) _ (a .n) (l .i) (l .inv .0) (omega arith) ∙ grown-more (a .t1) (a .n) (e2 .if2 .left) ∙ sym (grown-in (a .t1) (a .n) (e .if1 .left))
+    fill-done nullSlot (a .t1) _ (a .n) (l .i) (l .inv .0) (omega arith) ∙ filled-more nullSlot (a .t1) (a .n) nullSlot refl (e2 .if2 .left) ∙ sym (filled-in nullSlot (a .t1) (a .n) (e .if1 .left))
 
 pub grow-to-spec : {M : Type 1} → statement M
 grow-to-spec =

@@ -13,11 +13,9 @@ use Rattle.base.specs.Pick.{pick, pick-cases, decide, same?, tests}
 use Rattle.base.specs.Over.{over}
 use Rattle.slots.specs.declared.Slot.{Slot}
 use Rattle.slots.specs.Slots.{nullSlot, noSlot}
 use Rattle.window.specs.declared.Window.{Window}
-use Rattle.window.specs.Window.{slotAt, putSlot, grown, sweep}
-use Rattle.replica.specs.declared.Replica.{Replica}
-use Rattle.replica.specs.Messages.{appended}
-use Rattle.laws.specs.Windows.{size, put-here, put-other, grown-low, grown-has, grown-most, grown-old, grown-new, sweep-in, sweep-before, sweep-after, sweep-each, appendedAs, appended-low, appended-has, appended-most, appended-old, appended-new}
+use Rattle.window.specs.Window.{slotAt, putSlot, filled, grown, sweep}
+use Rattle.window.specs.Places.{size, put-here, put-other, filled-low, filled-has, filled-most, filled-old, filled-new, sweep-in, sweep-before, sweep-after, sweep-each}
 
 -- the slot at a place; null where the log does not reach
 unfoldable pub atPlace : Window → ℕ → Slot
@@ -40,31 +38,22 @@ module _ (w : Window) (i : ℕ) where
       go (inl e) = ltb-true i (w .len) e
       go (inr e) = absurd (omega (arith, ap (λ (x : Slot). x .status) (at-past (ltb-false i (w .len) e))))
 
--- null slots up to a place: no slot changes
-pub grown-at : (w : Window) (n i : ℕ) → n ≤ size w → atPlace (grown w n) i ≡ atPlace w i
-grown-at w n i h = go (decide (ltb i (w .len))) (decide (ltb i n))
+-- slots z up to a place: what stands there, or z past the log's end
+pub filled-cases : (P : Slot → Type 0) (z : Slot) (w : Window) (n i : ℕ) → n ≤ size w → (w .len ≤ i → P z) → P (atPlace w i) → P (atPlace (filled z w n) i)
+filled-cases P z w n i h new old = go (decide (ltb i (w .len))) (decide (ltb i n))
   where
-    go : (ltb i (w .len) ≡ true) ⊎ (ltb i (w .len) ≡ false) → (ltb i n ≡ true) ⊎ (ltb i n ≡ false) → atPlace (grown w n) i ≡ atPlace w i
-    go (inl a) b = at-here (grown w n) i (omega (arith, tests, grown-low w n)) ∙ grown-old w n i (ltb-true _ _ a) ∙ sym (at-here w i (ltb-true _ _ a))
-    go (inr a) (inl b) =
-        at-here (grown w n) i (omega (arith, tests, grown-has w n)) ∙ grown-new w n i (ltb-false _ _ a) (ltb-true _ _ b) (omega (arith, tests))
-        ∙ sym (at-past w i (ltb-false _ _ a))
-    go (inr a) (inr b) = at-past (grown w n) i (grown-most w n i (ltb-false _ _ a) (ltb-false _ _ b)) ∙ sym (at-past w i (ltb-false _ _ a))
-
--- slots appended up to place i, whose trigger is at place j
-pub appended-cases : (P : Slot → Type 0) (r : Replica) (j i k : ℕ) → i < size (r .window) → (r .window .len ≤ k → P (appendedAs r j i)) → P (atPlace (r .window) k)
-    → P (atPlace (appended r j i) k)
-appended-cases P r j i k h new old = go (decide (ltb k (r .window .len))) (decide (leb k i))
-  where
-    go : (ltb k (r .window .len) ≡ true) ⊎ (ltb k (r .window .len) ≡ false) → (leb k i ≡ true) ⊎ (leb k i ≡ false) → P (atPlace (appended r j i) k)
+    go : (ltb i (w .len) ≡ true) ⊎ (ltb i (w .len) ≡ false) → (ltb i n ≡ true) ⊎ (ltb i n ≡ false) → P (atPlace (filled z w n) i)
     go (inl a) b =
-        rw (at-here (appended r j i) k (omega (arith, tests, appended-low r j i)), appended-old r j i k (ltb-true _ _ a))
-        (rw (at-here (r .window) k (ltb-true _ _ a)) at old)
+        rw (at-here (filled z w n) i (omega (arith, tests, filled-low z w n)), filled-old z w n i (ltb-true _ _ a)) (rw (at-here w i (ltb-true _ _ a)) at old)
     go (inr a) (inl b) =
-        rw (at-here (appended r j i) k (omega (arith, tests, appended-has r j i)), appended-new r j i k (ltb-false _ _ a) (leb-true _ _ b) (omega (arith, tests)))
+        rw (at-here (filled z w n) i (omega (arith, tests, filled-has z w n)), filled-new z w n i (ltb-false _ _ a) (ltb-true _ _ b) (omega (arith, tests)))
         (new (ltb-false _ _ a))
     go (inr a) (inr b) =
-        rw (at-past (appended r j i) k (appended-most r j i k (ltb-false _ _ a) (leb-false _ _ b))) (rw (at-past (r .window) k (ltb-false _ _ a)) at old)
+        rw (at-past (filled z w n) i (filled-most z w n i (ltb-false _ _ a) (ltb-false _ _ b))) (rw (at-past w i (ltb-false _ _ a)) at old)
+
+-- null slots: no slot changes
+pub grown-at : (w : Window) (n i : ℕ) → n ≤ size w → atPlace (grown w n) i ≡ atPlace w i
+grown-at w n i h = filled-cases (λ (x : Slot). x ≡ atPlace w i) nullSlot w n i h (λ l. sym (at-past w i l)) refl
 
 -- ── one slot put ──
 module _ (w : Window) (i : ℕ) (x : Slot) where
