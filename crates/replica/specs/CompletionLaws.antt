@@ -27,10 +27,10 @@ use Rattle.decide.specs.Laws.{Steady, Settles, done, refused, settles-accepted}
 use Rattle.decide.specs.PrepareReply.{ownReply}
 use Rattle.window.specs.declared.Window.{Window}
 use Rattle.window.specs.declared.Placed.{Placed}
-use Rattle.window.specs.Window.{slotAt, putSlot, passes}
+use Rattle.window.specs.Window.{slotAt, putSlot}
 use Rattle.window.specs.Acts.{passActs}
 use Rattle.window.specs.Sweeps.{Swept}
-use Rattle.window.specs.Bounded.{stopIn}
+use Rattle.window.specs.Bounded.{stopIn, passes}
 use Rattle.window.specs.BoundedLaws.{stop-in}
 use Rattle.window.specs.Laws.{passes-status}
 use Rattle.replica.specs.declared.Replica.{Replica}

@@ -40,6 +40,7 @@ use Rattle.window.specs.Sweeps.{Ranged, SweptIn, PromisesIn}
 use Rattle.window.specs.Bounded.{filledIn}
 use Rattle.window.specs.BoundedLaws.{filled-in}
 use Rattle.window.specs.Places.{filled-long, filled-low, filled-most}
+use Rattle.window.specs.Laws.{promises-many}
 use Rattle.window.specs.RangeLaws.{swept-in, promised-in}
 use Rattle.replica.specs.declared.Replica.{Replica}
 use Rattle.replica.specs.Record.{Outcome, kept, noting, withWindow, place, number}
@@ -253,11 +254,12 @@ module _ (r : Replica) (peer : ℕ) (m : Reply) (i j : ℕ) (w : Window) (fallen
     reply-told {room} {mid} {after} {k} {to} {p} {b} {bars} {keys} fits a f h x′ t y′ u v =
         let first = appendActs r i in
         let x = promised-in (r .sc .start) (r .sc .«bal_prep_sent») (r .window .len) (i + 1) 0 room k mid x′ (omega (arith, fits .place)) (omega (arith, fits .place)) (fits .long) (fits .low) in
-        let l : length mid ≡ length room = ap length (x .written) ∙ length-write room 0 first (omega (arith, x .many, fits .place, fits .long)) in
+        let many = promises-many (r .sc .start) (r .sc .«bal_prep_sent») (r .window .len) (i + 1) in
+        let l : length mid ≡ length room = ap length (x .written) ∙ length-write room 0 first (omega (arith, many, fits .place, fits .long)) in
         let y = swept-in y′ (enter-fits fits t (x .next) (omega (arith, fits .long))) in
         let second = enteredActs r (withBar (r .sc) (r .bars) peer (m .bar)) w i j m first g in
         let z = rw t at y in
-        let n : k ≡ 0 + length first = omega (arith, x .next, x .many) in
+        let n : k ≡ 0 + length first = omega (arith, x .next, many) in
         acted (first ++ second) _ (p .next) refl (z .next ∙ sym (length-append first second ∙ omega arith))
         (write-then room mid after first second 0 k (omega arith) n (x .written) (z .written))
         (reply-carried ∙ carried-acts r _ w i j m first g a (sym f ∙ h) ∙ rw (z .window, u, v))

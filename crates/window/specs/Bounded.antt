@@ -8,7 +8,7 @@ use Rattle.base.specs.Scan.{scan}
 use Rattle.slots.specs.declared.Slot.{Slot}
 use Rattle.slots.specs.Slots.{executed}
 use Rattle.window.specs.declared.Window.{Window}
-use Rattle.window.specs.Window.{slotAt, filled, fitSlots, lastUsed, lastOpen, passes}
+use Rattle.window.specs.Window.{slotAt, filled, fitSlots, lastUsed, lastOpen}
 
 unfoldable pub filledIn : Slot → Window → ℕ → Window
 filledIn z w n = pick (leb n 64) (filled z w n) w
@@ -22,6 +22,10 @@ lastOpenIn w = pick (leb (w .len) 64) (lastOpen w) (w .len)
 -- some slot of a range has a larger ballot
 unfoldable pub anyAboveIn : Window → ℕ → ℕ → ℕ → Bool
 anyAboveIn w ballot from to = leb to 64 && any (λ i. ltb ballot (slotAt w i .ballot)) from to
+
+-- a slot is at least at a ballot and a status
+abbrev pub passes : Window → ℕ → ℕ → ℕ → Bool
+passes w ballot status i = leb ballot (slotAt w i .ballot) && leb status (slotAt w i .status)
 
 -- the first place of a range whose slot is below a ballot or a status, and the first whose slot is not Executed
 unfoldable pub stopIn : Window → ℕ → ℕ → ℕ → ℕ → ℕ

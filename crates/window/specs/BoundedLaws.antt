@@ -8,8 +8,8 @@ use Rattle.base.specs.Find.{any}
 use Rattle.base.specs.Scan.{scan}
 use Rattle.slots.specs.declared.Slot.{Slot}
 use Rattle.window.specs.declared.Window.{Window}
-use Rattle.window.specs.Window.{slotAt, filled, fitSlots, lastUsed, lastOpen, passes}
-use Rattle.window.specs.Bounded.{filledIn, lastUsedIn, lastOpenIn, anyAboveIn, stopIn, executedIn, fitIn}
+use Rattle.window.specs.Window.{slotAt, filled, fitSlots, lastUsed, lastOpen}
+use Rattle.window.specs.Bounded.{filledIn, lastUsedIn, lastOpenIn, anyAboveIn, stopIn, executedIn, fitIn, passes}
 
 module _ (z : Slot) (w : Window) (n : ℕ) where
   pub filled-in : n ≤ 64 → filledIn z w n ≡ filled z w n

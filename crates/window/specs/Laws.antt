@@ -9,7 +9,7 @@ use native.Mathlib.Omega.{arith}
 use lib.Dec.{leb, ltb}
 use lib.ListN.{length, getD, set, length-append}
 use borrow.Author.Tests.{le-leb, lt-leb, eq-eqb, ne-eqb}
-use Rattle.base.specs.Pick.{pick, and-make}
+use Rattle.base.specs.Pick.{pick, pick-cases, and-make, tests}
 use Rattle.base.specs.Over.{over, over-self, over-more, over-after}
 use Rattle.base.specs.Gather.{gather, gather-none, gather-self, gather-more}
 use Rattle.base.specs.Find.{any, any-none, any-self, last, last-more, last-below, search-found, search-more, search-done}
@@ -23,9 +23,10 @@ use Rattle.decide.specs.Decide.{proposal}
 use Rattle.window.specs.declared.Window.{Window}
 use Rattle.window.specs.declared.Placed.{Placed}
 use Rattle.window.specs.declared.Turned.{Turned}
-use Rattle.window.specs.Window.{slotAt, filled, lastUsed, firstOpen, lastOpen, markStop, passes, fitSlots}
+use Rattle.window.specs.Window.{slotAt, filled, lastUsed, firstOpen, lastOpen, markStop, fitSlots}
 use Rattle.window.specs.Acts.{promise, enterActs, redoActs, markActs, passActs}
 use Rattle.window.specs.Sweeps.{TwoFit, Turns, Swept, Promises}
+use Rattle.window.specs.Bounded.{passes}
 
 -- no action, one, or two, written from the n-th place on
 module _ (x y : Slot) (acts : List Act) (n : ℕ) (room after : List ℕ) (e : y ≡ x) where
@@ -116,30 +117,38 @@ range-end h from i to p q r e =
     (λ (past : to < i). let z : i ≡ from = omega arith in ap h z ∙ e (omega arith))
     (eq-or-lt-of-le q)
 
--- a loop that writes a promise for each place of a range: where it begins, a turn of it, its end
-module _ (from k start ballot : ℕ) (room : List ℕ) where
-  abbrev promisesOf : ℕ → List Act
+-- one promise for each place of a range
+module _ (start ballot : ℕ) where
+  abbrev pub promisesOf : ℕ → List Act
   promisesOf i = promise (start + i) ballot ∷ []
 
+  pub promises-many : (from to : ℕ) → length (gather promisesOf from to) ≡ to - from
+  promises-many from zero = omega arith
+  promises-many from (suc j) =
+      pick-cases (λ (x : List Act). length x ≡ suc j - from) (leb from j)
+      (λ t. length-append (gather promisesOf from j) (promisesOf j) ∙ omega (arith, tests, promises-many from j))
+      (λ t. promises-many from j ∙ omega (arith, tests))
+
+-- a loop that writes them: where it begins, a turn of it, its end
+module _ (from k start ballot : ℕ) (room : List ℕ) where
   pub promises-start : Promises from from k start ballot room k room
-  promises-start =
-      record { next = omega arith; many = rw (gather-self promisesOf from) (omega arith); written = room-start room k promisesOf from }
+  promises-start = record { next = omega arith; written = room-start room k (promisesOf start ballot) from }
 
   pub promises-turn : (n : ℕ) (r t : List ℕ) (i : ℕ) → from ≤ i → 18 * k ≤ length room → Promises from i k start ballot room n r
       → t ≡ writeAt r n (promise (start + i) ballot ∷ []) → Promises from (i + 1) k start ballot room (n + 1) t
   promises-turn n r t i h l p e =
       record {
         next = omega (arith, p .next);
-        many = rw (gather-more promisesOf from i h) (length-append (gather promisesOf from i) (promisesOf i) ∙ omega (arith, p .many));
-        written = room-turn room k promisesOf from r t i n h l (omega (arith, p .next, p .many)) (p .written) e;
+        written = room-turn room k (promisesOf start ballot) from r t i n h l (omega (arith, p .next, promises-many start ballot from i)) (p .written) e;
       }
 
   pub promises-end : (n : ℕ) (r : List ℕ) (i to : ℕ) → from ≤ i → to ≤ i → i - from ≤ to - from → Promises from i k start ballot room n r
       → Promises from to k start ballot room n r
   promises-end n r i to h q u p =
-      let same : gather promisesOf from i ≡ gather promisesOf from to =
-      range-end (gather promisesOf from) from i to h q u (λ v. gather-self promisesOf from ∙ sym (gather-none promisesOf from to v)) in
-      record { next = omega (arith, p .next); many = ap length (sym same) ∙ omega (arith, p .many); written = rw same at (p .written) }
+      let g : ℕ → List Act = promisesOf start ballot in
+      let same : gather g from i ≡ gather g from to =
+      range-end (gather g from) from i to h q u (λ v. gather-self g from ∙ sym (gather-none g from to v)) in
+      record { next = omega (arith, p .next); written = rw same at (p .written) }
 
 -- a loop that writes one value to each place from the window's end up to n
 module _ (z : Slot) (w : Window) where

@@ -1,8 +1,8 @@
 pub mod Window
 pub mod Acts
 pub mod Sweeps
-pub mod Laws
 pub mod Bounded
+pub mod Laws
 pub mod BoundedLaws
 pub mod RangeLaws
 pub mod Places

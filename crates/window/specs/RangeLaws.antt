@@ -2,14 +2,14 @@
 use mathlib.Core.Path.{_≡_, sym, ap, _∙_}
 use mathlib.Core.Bool.{true, false, and-false}
 use mathlib.Core.Logic.{⊎-elim}
-use mathlib.Core.List.{List, [], _∷_}
-use Prim.Native.Nat.{ℕ, zero, suc, _+_, _-_, _*_, _≤_, _<_}
+use mathlib.Core.List.{List, []}
+use Prim.Native.Nat.{ℕ, _+_, _-_, _*_, _≤_, _<_}
 use native.Mathlib.Nat.{add-zero}
 use native.Mathlib.Omega.{arith}
 use lib.Dec.{leb}
-use lib.ListN.{length, length-append}
+use lib.ListN.{length}
 use borrow.Author.Tests.{le-leb, lt-leb, leb-true}
-use Rattle.base.specs.Pick.{pick, pick-cases, and-both, decide, tests}
+use Rattle.base.specs.Pick.{pick, and-both, decide, tests}
 use Rattle.base.specs.Gather.{gather, gather-none}
 use Rattle.actions.specs.Actions.{Act, writeAt}
 use Rattle.actions.specs.Laws.{write-none}
@@ -17,8 +17,8 @@ use Rattle.slots.specs.declared.Slot.{Slot}
 use Rattle.window.specs.declared.Window.{Window}
 use Rattle.window.specs.declared.Placed.{Placed}
 use Rattle.window.specs.Window.{sweep}
-use Rattle.window.specs.Acts.{promise}
 use Rattle.window.specs.Sweeps.{sweepActs, ranged, Ranged, Swept, SweptIn, Promises, PromisesIn}
+use Rattle.window.specs.Laws.{promisesOf, promises-many}
 
 -- each test of it that fails, and the last where the others have passed
 module _ (from to k room start : ℕ) where
@@ -79,41 +79,29 @@ swept-in {f} {g} {from} {to} {k} {start} {w} {room} {p} s r =
     let h : p ≡ record { next = k + length (sweepActs g from to w); window = sweep f from to w } = rw e at (s .handed) in
     record { window = ap (λ (x : Placed). x .window) h; next = ap (λ (x : Placed). x .next) h; few = s .few; written = rw e at (s .written) }
 
--- one promise for each place
-module _ (start ballot : ℕ) where
-  abbrev promisesOf : ℕ → List Act
-  promisesOf i = promise (start + i) ballot ∷ []
+-- promises for a range that fails the test, that passes it, and what a caller knows whose numbers are within their bounds
+module _ (start ballot from to k : ℕ) (room : List ℕ) where
+  pub unpromised : ranged from to k (length room) start ≡ false → PromisesIn from to k start ballot room k room
+  unpromised e = record { next = rw (e, add-zero k); written = rw (e, write-none room k) }
 
-  promises-many : (from to : ℕ) → length (gather promisesOf from to) ≡ to - from
-  promises-many from zero = omega arith
-  promises-many from (suc j) =
-      pick-cases (λ (x : List Act). length x ≡ suc j - from) (leb from j)
-      (λ t. length-append (gather promisesOf from j) (promisesOf j) ∙ omega (arith, tests, promises-many from j))
-      (λ t. promises-many from j ∙ omega (arith, tests))
+  module _ (n : ℕ) (after : List ℕ) where
+    pub promised-all : ranged from to k (length room) start ≡ true → Promises from to k start ballot room n after → PromisesIn from to k start ballot room n after
+    promised-all e p = record { next = rw e (omega (arith, p .next, promises-many start ballot from to)); written = rw e (p .written) }
 
-  module _ (from to k : ℕ) (room : List ℕ) where
-    pub unpromised : ranged from to k (length room) start ≡ false → PromisesIn from to k start ballot room k room
-    unpromised e = record { next = rw (e, add-zero k); written = rw (e, write-none room k) }
-
-    module _ (n : ℕ) (after : List ℕ) where
-      pub promised-all : ranged from to k (length room) start ≡ true → Promises from to k start ballot room n after → PromisesIn from to k start ballot room n after
-      promised-all e p = record { next = rw e (omega (arith, p .next, p .many)); written = rw e (p .written) }
-
-      -- an empty range needs no test: there is nothing to write
-      pub promised-in : PromisesIn from to k start ballot room n after → to ≤ 64 → k + 2 * (to - from) ≤ 192 → 3456 ≤ length room → start ≤ 4294967296
-          → Promises from to k start ballot room n after
-      promised-in p a b c d =
-          ⊎-elim
-          (λ (t : leb from to ≡ true).
-          let r : Ranged from to k room start = record { ordered = leb-true from to t; within = a; places = b; long = c; low = d } in
-          made (rw (ranged-true from to k room start r)))
-          (λ (t : leb from to ≡ false).
-          let h : to < from = omega (arith, tests) in
-          made (rw (← range-turned from to k (length room) start h, gather-none promisesOf from to (omega arith))))
-          (decide (leb from to))
-        where
-          made : pick (ranged from to k (length room) start) (gather promisesOf from to) [] ≡ gather promisesOf from to
-              → Promises from to k start ballot room n after
-          made e =
-              let m = promises-many from to in
-              record { next = p .next ∙ ap (λ (x : List Act). k + length x) e ∙ omega arith; many = m; written = p .written ∙ ap (writeAt room k) e }
+    -- an empty range needs no test: there is nothing to write
+    pub promised-in : PromisesIn from to k start ballot room n after → to ≤ 64 → k + 2 * (to - from) ≤ 192 → 3456 ≤ length room → start ≤ 4294967296
+        → Promises from to k start ballot room n after
+    promised-in p a b c d =
+        ⊎-elim
+        (λ (t : leb from to ≡ true).
+        made (rw (ranged-true from to k room start (record { ordered = leb-true from to t; within = a; places = b; long = c; low = d }))))
+        (λ (t : leb from to ≡ false).
+        let h : to < from = omega (arith, tests) in
+        made (rw (← range-turned from to k (length room) start h, gather-none (promisesOf start ballot) from to (omega arith))))
+        (decide (leb from to))
+      where
+        made : pick (ranged from to k (length room) start) (gather (promisesOf start ballot) from to) [] ≡ gather (promisesOf start ballot) from to
+            → Promises from to k start ballot room n after
+        made e =
+            let m = promises-many start ballot from to in
+            record { next = p .next ∙ ap (λ (x : List Act). k + length x) e ∙ omega arith; written = p .written ∙ ap (writeAt room k) e }

@@ -66,7 +66,6 @@ module _ (f : ℕ → Slot → Slot) (g : ℕ → Slot → List Act) where
 -- what writing a promise for each place of a range hands back
 pub record Promises (from to k start ballot : ℕ) (room : List ℕ) (n : ℕ) (after : List ℕ) : Type 0 where
   pub next : n ≡ k + (to - from)
-  pub many : length (gather (λ i. promise (start + i) ballot ∷ []) from to) ≡ to - from
   pub written : after ≡ writeAt room k (gather (λ i. promise (start + i) ballot ∷ []) from to)
 
 -- the same of any numbers

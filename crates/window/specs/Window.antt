@@ -49,10 +49,6 @@ firstOpen w = scan (λ i. leb committed (slotAt w i .status)) 0 (w .len)
 unfoldable pub lastOpen : Window → ℕ
 lastOpen w = last (λ i. ltb (slotAt w i .status) committed) (w .len) (w .len)
 
--- a slot is at least at a ballot and a status
-abbrev pub passes : Window → ℕ → ℕ → ℕ → Bool
-passes w ballot status i = leb ballot (slotAt w i .ballot) && leb status (slotAt w i .status)
-
 -- CommitNotice: "stops at the first slot with a smaller ballot or a status below Accepting"
 abbrev pub mayMark : ℕ → Slot → Bool
 mayMark ballot s = leb ballot (s .ballot) && leb accepting (s .status)

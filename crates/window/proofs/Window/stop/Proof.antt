@@ -3,9 +3,9 @@ use Prim.Native.Nat.{_-_}
 use native.Mathlib.Omega.{arith}
 use borrow.Author.Needs.{needs}
 use Rattle.base.specs.Scan.{scan, scan-on, scan-stop, scan-end}
-use Rattle.window.specs.Window.{passes}
 use Rattle.window.specs.Laws.{passes-low, passes-early, passes-both}
 use Rattle.window.specs.BoundedLaws.{stop-in, stop-out}
+use Rattle.window.specs.Bounded.{passes}
 use Rattle.window.proofs.Window.stop.Statement.{statement}
 use Rattle.window.proofs.Window.stop.Tie as tie
 
