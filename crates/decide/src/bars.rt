@@ -21,7 +21,7 @@ pub fn unknown_bars(own: bool) -> PeerBars
 
 impl PeerBars {
     // A member's bar, 0 where there is no such place.
-    pub fn bar_of(self, m: u64) -> u64
+    pub(crate) fn bar_of(self, m: u64) -> u64
         ensures { λ r. ⌜ r ≡ barOf self m ⌝ }
     {
         if 8 < m {
@@ -32,7 +32,7 @@ impl PeerBars {
     }
 
     // Whether the table has an entry for m: each other member, and self once it has one.
-    pub fn has_entry(self, sc: Scalars, m: u64) -> bool
+    pub(crate) fn has_entry(self, sc: Scalars, m: u64) -> bool
         ensures { λ r. ⌜ r ≡ hasEntry sc self m ⌝ }
     {
         if sc.group <= m {
@@ -82,7 +82,7 @@ impl PeerBars {
     }
 
     // How many entries are not above a bar.
-    pub fn not_above(self, sc: Scalars, bar: u64) -> u64
+    pub(crate) fn not_above(self, sc: Scalars, bar: u64) -> u64
         ensures { λ r. ⌜ r ≡ notAbove sc self bar ⌝ }
     {
         let mut n = 0;
@@ -110,7 +110,7 @@ impl PeerBars {
     }
 
     // The least entry that a quorum of entries is not above.
-    pub fn least_majority(self, sc: Scalars) -> u64
+    pub(crate) fn least_majority(self, sc: Scalars) -> u64
         ensures { λ r. ⌜ r ≡ leastMajority sc self 9 ⌝ }
     {
         let mut least = UNKNOWN_BAR;

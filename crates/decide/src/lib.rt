@@ -10,9 +10,6 @@ pub use numbers::NOBODY;
 pub use numbers::UNKNOWN_BAR;
 pub use numbers::may_be;
 pub use prepare_reply::bad_vote;
-pub use replies::awaits_prepare;
-pub use replies::proposal;
-pub use replies::sent_vote;
 use slots::Slot;
 use slots::Vote;
 

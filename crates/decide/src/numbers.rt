@@ -46,7 +46,7 @@ impl Scalars {
         self.leader == self.id
     }
 
-    pub fn is_member(self, m: u64) -> bool
+    pub(crate) fn is_member(self, m: u64) -> bool
         ensures { λ r. ⌜ r ≡ isMember self m ⌝ }
     {
         m < self.group
@@ -168,7 +168,7 @@ impl Scalars {
         self.leader == self.id
     }
 
-    pub fn with_prepared(mut self, ballot: u64) -> Scalars
+    pub(crate) fn with_prepared(mut self, ballot: u64) -> Scalars
         ensures { λ r. ⌜ r ≡ withPrepared self ballot ⌝ }
     {
         self.bal_prepared = ballot;
@@ -191,7 +191,7 @@ impl Scalars {
         self
     }
 
-    pub fn with_peer_max(mut self, bar: u64) -> Scalars
+    pub(crate) fn with_peer_max(mut self, bar: u64) -> Scalars
         ensures { λ r. ⌜ r ≡ withPeerMax self bar ⌝ }
     {
         self.peer_accept_max = bar;

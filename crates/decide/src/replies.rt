@@ -20,7 +20,7 @@ use slots::Slot;
 use slots::Vote;
 
 // The content of an AcceptData entry and of an Accept.
-pub fn proposal(slot: u64, ballot: u64, b: Batch) -> Proposal
+pub(crate) fn proposal(slot: u64, ballot: u64, b: Batch) -> Proposal
     ensures { λ r. ⌜ r ≡ proposal slot ballot b ⌝ }
 {
     Proposal {
@@ -32,7 +32,7 @@ pub fn proposal(slot: u64, ballot: u64, b: Batch) -> Proposal
 }
 
 // The vote that a reply tells: none where its ballot is 0.
-pub fn sent_vote(s: Slot) -> Vote
+pub(crate) fn sent_vote(s: Slot) -> Vote
     ensures { λ r. ⌜ r ≡ sentVote s ⌝ }
 {
     if s.vote.ballot == 0 {
@@ -43,7 +43,7 @@ pub fn sent_vote(s: Slot) -> Vote
 }
 
 // Whether a PrepareReply is neither a duplicate nor outdated.
-pub fn awaits_prepare(s: Slot, ballot: u64) -> bool
+pub(crate) fn awaits_prepare(s: Slot, ballot: u64) -> bool
     ensures { λ r. ⌜ r ≡ awaitsPrepare s ballot ⌝ }
 {
     if s.status != PREPARING {
@@ -156,7 +156,7 @@ impl Scalars {
     }
 
     // The vote of a PrepareReply replaces only on a strictly larger ballot.
-    pub fn decide_vote(self, s: Slot, ballot: u64, voted: bool, v: Vote) -> Decided
+    pub(crate) fn decide_vote(self, s: Slot, ballot: u64, voted: bool, v: Vote) -> Decided
         ensures { λ r. ⌜ r ≡ decideVote self s ballot voted v ⌝ }
     {
         if self.contradicts(s, ballot, voted) {
@@ -180,14 +180,14 @@ impl Scalars {
     }
 
     // Whether a quorum of members is counted at the trigger slot.
-    pub fn is_counted(self, t: Slot) -> bool
+    pub(crate) fn is_counted(self, t: Slot) -> bool
         ensures { λ r. ⌜ r ≡ isCounted self t ⌝ }
     {
         self.quorum() <= members::count(t.leader.prepare_acks)
     }
 
     // A member counts at the trigger slot; at the quorum the ballot is prepared.
-    pub fn decide_count(self, t: Slot, peer: u64, ballot: u64) -> Decided
+    pub(crate) fn decide_count(self, t: Slot, peer: u64, ballot: u64) -> Decided
         ensures { λ r. ⌜ r ≡ decideCount self t peer ballot ⌝ }
     {
         let more = t.counted(peer);

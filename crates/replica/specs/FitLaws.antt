@@ -1,4 +1,4 @@
--- The laws of the fit test: its loops, and what a fit record says of its numbers.
+-- The laws of the fit test, by its four parts, and of a new replica, refused and made.
 use mathlib.Core.Path.{_≡_, sym, ap}
 use mathlib.Core.Bool.{Bool, true, false, and-false}
 use Prim.Native.Nat.{ℕ, _≤_, _<_}

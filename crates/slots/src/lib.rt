@@ -110,7 +110,7 @@ pub fn new_book(trigger: u64, endprep: u64) -> LeaderBook
 
 impl ReplicaBook {
     // A known book keeps its trigger and endprep and gets the new source.
-    pub fn sourced(self, peer: u64) -> ReplicaBook
+    pub(crate) fn sourced(self, peer: u64) -> ReplicaBook
         ensures { λ r. ⌜ r ≡ sourced self peer ⌝ }
     {
         if self.present {
@@ -132,7 +132,7 @@ impl ReplicaBook {
 
 // A slot with one part changed.
 impl Slot {
-    pub fn with_state(mut self, ballot: u64, status: u64) -> Slot
+    pub(crate) fn with_state(mut self, ballot: u64, status: u64) -> Slot
         ensures { λ r. ⌜ r ≡ withState self ballot status ⌝ }
     {
         self.ballot = ballot;
@@ -140,35 +140,35 @@ impl Slot {
         self
     }
 
-    pub fn with_batch(mut self, batch: Batch) -> Slot
+    pub(crate) fn with_batch(mut self, batch: Batch) -> Slot
         ensures { λ r. ⌜ r ≡ withBatch self batch ⌝ }
     {
         self.batch = batch;
         self
     }
 
-    pub fn with_vote(mut self, vote: Vote) -> Slot
+    pub(crate) fn with_vote(mut self, vote: Vote) -> Slot
         ensures { λ r. ⌜ r ≡ withVote self vote ⌝ }
     {
         self.vote = vote;
         self
     }
 
-    pub fn with_leader(mut self, book: LeaderBook) -> Slot
+    pub(crate) fn with_leader(mut self, book: LeaderBook) -> Slot
         ensures { λ r. ⌜ r ≡ withLeader self book ⌝ }
     {
         self.leader = book;
         self
     }
 
-    pub fn with_replica(mut self, book: ReplicaBook) -> Slot
+    pub(crate) fn with_replica(mut self, book: ReplicaBook) -> Slot
         ensures { λ r. ⌜ r ≡ withReplica self book ⌝ }
     {
         self.replica = book;
         self
     }
 
-    pub fn with_external(mut self) -> Slot
+    pub(crate) fn with_external(mut self) -> Slot
         ensures { λ r. ⌜ r ≡ withExternal self ⌝ }
     {
         self.external = true;
