@@ -38,7 +38,7 @@ use Rattle.voting.specs.Quorums.{kindOf}
 use Rattle.replica.specs.declared.Entry.the-variants.{PrepareBal, AcceptData, CommitSlot as CommitEntry}
 use Rattle.replica.specs.Durability.{loggedOn}
 use Rattle.voting.specs.Logging.{LogWays, ownAnswer, logged-way}
-use Rattle.voting.specs.History.{Lent, told, play}
+use Rattle.voting.specs.History.{Lent, told, play, play-append}
 use Rattle.voting.specs.Promises.{step-core, play-grows}
 use Rattle.voting.specs.Paper.{Choice}
 use Rattle.voting.specs.Heard.{heldAt, heardIn, Reign}
@@ -102,7 +102,7 @@ module _ (r : Replica) (peer : ℕ) (m : Reply) (h : Whole (r .window)) (n : r .
         passed = λ f t x o k. appends (replyWindow r m) x o k;
         weighed = λ f w x o k. appends (heardWindow r m) x o k;
         counted = λ f w x o k. appends (countedWindow r peer m) x o k;
-        entered = λ f w x o k. both f x k (List·Memᴰ·append-cases (replyActs r m) o);
+        entered = λ f w q x o k. both f x k (List·Memᴰ·append-cases (replyActs r m) o);
       }
     where
       both : Answers r m → (x : Act) → kindOf x ≡ 6 → (x ∈ replyActs r m) ⊎ (x ∈ entersActs r peer m) → Entered r (m .ballot) (enteredWindow r peer m) x
@@ -148,10 +148,6 @@ own-enters-with r room slot size h =
     (λ f. own-enters r slot size h f)
 
 -- ── the whole sentence ──
-play-append : (r : Replica) (h : List Lent) (c : Lent) → play r (h ++ (c ∷ [])) ≡ told (play r h) c .replica
-play-append r [] c = refl
-play-append r (x ∷ h) c = play-append (told r x .replica) h c
-
 -- 2.2, phase 2 (a), of an Accept at a ballot that the last call c of a history gives: it is of a slot s and a batch b; where nothing was heard of s
 -- at the start (Choice.step-up-unheard, absent-unheard) and self led through all of it at one ballot, b is the paper's choice among the votes heard,
 -- else what the slot held at the start

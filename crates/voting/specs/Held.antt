@@ -122,7 +122,7 @@ module _ (r : Replica) (peer : ℕ) (m : Reply) (s : ℕ) (h : Whole (r .window)
         passed = λ f t. wide-held f (place (r .sc) s) ∙ sym (ap (best (heldAt r s)) (brings-none r m s 0 (λ z a. clash (a .waits) t)));
         weighed = λ f w. weighed-held f w;
         counted = λ f w. counted-held f w;
-        entered = λ f w.
+        entered = λ f w q.
             sweep-keeps heldBy (λ k x. enteredSlot x) (λ k x. entered-keeps heldBy (λ s n. refl) x) (place (r .sc) (m .trigger)) (countedWindow r peer m .len) (countedWindow r peer m) (place (r .sc) s) ∙ counted-held f w;
       }
 
@@ -162,7 +162,7 @@ log-holds r d s n =
       promised = λ z t x y. e;
       acked = λ z x y. put _ refl;
       commits = λ z k q x y. put _ refl;
-      answered = λ z x y. e;
+      answered = λ z t x y. e;
       passes = λ z x y.
           sweep-keeps heldBy (λ k v. passedSlot v) (λ k v. passed-keeps heldBy (λ s n. refl) v) (passFrom (logged r d)) (passStop (logged r d)) (logged r d .window) (place (r .sc) s) ∙ e;
     }

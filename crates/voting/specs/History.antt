@@ -1,6 +1,7 @@
 -- Histories: a list of calls, each with the room it is lent, played one after the other from a replica.
+use mathlib.Core.Path.{_≡_, refl}
 use mathlib.Core.Bool.{Bool, _&&_}
-use mathlib.Core.List.{List, [], _∷_}
+use mathlib.Core.List.{List, [], _∷_, _++_}
 use Prim.Native.Nat.{ℕ}
 use lib.Dec.{ltb, eqb}
 use lib.ListN.{length}
@@ -19,6 +20,11 @@ told r c = step r (c .room) (c .call)
 abbrev pub play : Replica → List Lent → Replica
 play r [] = r
 play r (c ∷ h) = play (told r c .replica) h
+
+-- one call more
+pub play-append : (r : Replica) (h : List Lent) (c : Lent) → play r (h ++ (c ∷ [])) ≡ told (play r h) c .replica
+play-append r [] c = refl
+play-append r (x ∷ h) c = play-append (told r x .replica) h c
 
 -- a call acts: answer 0, with an action
 abbrev pub acts : Outcome → Bool

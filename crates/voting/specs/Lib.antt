@@ -13,7 +13,11 @@ pub mod Heard
 pub mod Held
 pub mod Choice
 pub mod Entering
+pub mod Backing
 pub mod Quorums
+pub mod Majorities
 pub mod Telling
+pub mod Speaking
+pub mod Ballots
 pub mod Differences
 pub mod Met

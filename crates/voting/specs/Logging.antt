@@ -44,7 +44,7 @@ module _ (P : Claim) (r : Replica) (d : Done) where
         → quorum (r .sc) ≤ countIn (acknowledgedSlot (r .sc .id) (loggedAt r d) .leader .«accept_acks»)
         → P 0 (core (r .sc)) (putSlot (logged r d .window) (place (r .sc) (d .slot)) (committedSlot (acknowledgedSlot (r .sc .id) (loggedAt r d))))
         (bare (CommitSlot (record { slot = d .slot })) ∷ [])
-    pub answered : d .entry ≡ AcceptData
+    pub answered : d .entry ≡ AcceptData → leads (r .sc) ≡ false
         → P 0 (core (r .sc)) (logged r d .window) (bare (AcceptReply (record { member = loggedAt r d .replica .source; slot = d .slot; ballot = loggedAt r d .ballot })) ∷ [])
     pub passes : d .entry ≡ CommitEntry → of P (passed (logged r d))
 
@@ -58,7 +58,7 @@ module _ (P : Claim) (r : Replica) (d : Done) where
   completed-way h e _ _ completes-silent = moved-way _ _ (h .only (λ z. other-entry AcceptData PrepareBal refl (sym e ∙ z)))
   completed-way h e _ _ (completes-more b a q) = moved-way _ _ (h .acked e)
   completed-way h e _ _ (completes-commit b a q) = moved-way _ _ (h .commits e a q)
-  completed-way h e _ _ (completes-report n p) = moved-way _ _ (h .answered e)
+  completed-way h e _ _ (completes-report n p) = moved-way _ _ (h .answered e n)
 
   pub logged-way : (room : ℕ) → KeepsFor (d .slot < r .sc .start) (of P) r → (Logs r d → LogWays) → of P (loggedStep r room d)
   unfolding of loggedOn

@@ -133,7 +133,7 @@ own-commits r slot size h f =
           (ap (λ (v : Slot). v .leader) e ∙ logged-keeps (λ (v : Slot). v .leader) (λ s n. refl) (r .sc .«wal_offset») (slotAt (r .window) (place (r .sc) slot)))
           (ap (λ (v : Slot). v .status) e ∙ logged-keeps (λ (v : Slot). v .status) (λ s n. refl) (r .sc .«wal_offset») (slotAt (r .window) (place (r .sc) slot)))
           (a .leading) (a .status) (a .new) k;
-      answered = λ x. other-act slot _ (λ z. omega arith);
+      answered = λ x n. other-act slot _ (λ z. omega arith);
       passes = other-entry AcceptData CommitEntry refl;
     }
 

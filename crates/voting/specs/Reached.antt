@@ -120,7 +120,7 @@ module _ (r : Replica) (peer : ℕ) (m : Reply) (g : Good (r .sc) (r .window)) w
         passed = λ f t. re (r .sc) (r .window) (replyWindow r m) g (appended-long r (place (r .sc) (m .trigger)) (place (r .sc) (m .slot)) ∙ g .whole) (wide-low f);
         weighed = λ f t. re (r .sc) (r .window) (heardWindow r m) g (heard-long r peer m ∙ g .whole) (λ i. omega (arith, weighed-same i, wide-low f i));
         counted = λ f t. re (r .sc) (r .window) (countedWindow r peer m) g (counted-long r peer m ∙ g .whole) (λ i. omega (arith, counted-same i, wide-low f i));
-        entered = λ f t.
+        entered = λ f t q.
             record {
               whole = sweep-long (λ k s. enteredSlot s) (place (r .sc) (m .trigger)) (countedWindow r peer m .len) (countedWindow r peer m) ∙ counted-long r peer m ∙ g .whole;
               slots = λ i. omega (arith, entered-same i, wide-low f i);
@@ -226,7 +226,7 @@ log-good r d g =
       promised = λ e n. only;
       acked = λ e. put _ refl;
       commits = λ e k q. put _ refl;
-      answered = λ e. only;
+      answered = λ e n. only;
       passes = λ e. pass-good (logged r d) (logged r d .window) (passFrom (logged r d)) (passStop (logged r d)) a;
     }
 

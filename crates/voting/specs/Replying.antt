@@ -1,6 +1,6 @@
 -- The ways that a PrepareReply can go, also a leader's own, as a claim sees them.
 use mathlib.Core.Path.{_≡_}
-use mathlib.Core.Bool.{false}
+use mathlib.Core.Bool.{true, false}
 use mathlib.Core.List.{List, _++_}
 use mathlib.Core.Logic.{_⊎_, inl, inr}
 use Prim.Native.Nat.{ℕ, _<_}
@@ -21,7 +21,7 @@ use Rattle.replica.specs.Messages.{appendActs, replyOn, cleanReply, prepareRepl
 use Rattle.laws.specs.Leaves.{done}
 use Rattle.laws.specs.OfScalars.{fallen-ways}
 use Rattle.laws.specs.WaysMessages.{KeepsFor}
-use Rattle.laws.specs.WaysReply.{replyWindow, replySlot, heardWindow, countedWindow, Answers, Heard, Unheard, FromPeer, replyOn-ways, prepareReplyStep-ways}
+use Rattle.laws.specs.WaysReply.{replyWindow, replySlot, heardWindow, countedWindow, Answers, Heard, Unheard, FromPeer, isFull, replyOn-ways, prepareReplyStep-ways}
 use Rattle.voting.specs.Claims.{core, Claim, of, fallen-way}
 
 abbrev pub enteredWindow : Replica → ℕ → Reply → Window
@@ -34,13 +34,13 @@ entersActs r peer m =
 abbrev pub replyActs : Replica → Reply → List Act
 replyActs r m = appendActs r (place (r .sc) (m .slot))
 
--- what is claimed of the four ways of acting: the slot does not wait for it; it is weighed; its sender is counted; the slots enter Accept
+-- what is claimed of the four ways of acting: the slot does not wait for it; it is weighed; its sender is counted; a majority is counted, and the slots enter Accept
 module _ (P : Claim) (r : Replica) (peer : ℕ) (m : Reply) where
   pub record ReplyWays : Type 0 where
     pub passed : Answers r m → awaitsPrepare (replySlot r m) (m .ballot) ≡ false → P 0 (core (r .sc)) (replyWindow r m) (replyActs r m)
     pub weighed : Answers r m → Heard r peer m → P 0 (core (r .sc)) (heardWindow r m) (replyActs r m)
     pub counted : Answers r m → Heard r peer m → P 0 (core (r .sc)) (countedWindow r peer m) (replyActs r m)
-    pub entered : Answers r m → Heard r peer m
+    pub entered : Answers r m → Heard r peer m → isFull r peer m ≡ true
         → P 0 (core (withPrepared (r .sc) (m .ballot))) (enteredWindow r peer m) (replyActs r m ++ entersActs r peer m)
 
   -- whatever the outcome is wrapped in
@@ -53,7 +53,7 @@ module _ (P : Claim) (r : Replica) (peer : ℕ) (m : Reply) where
       (fallen-ways
       (λ (x : Scalars). P 0 (core (withPrepared x (m .ballot))) (enteredWindow r peer m)
       (replyActs r m ++ gather (λ i. enterActs (number x i) (m .ballot) (slotAt (countedWindow r peer m) i)) (place (r .sc) (m .trigger)) (countedWindow r peer m .len)))
-      (r .sc) (r .bars) peer (m .bar) (h .entered f t) (λ max. h .entered f t)))
+      (r .sc) (r .bars) peer (m .bar) (h .entered f t q) (λ max. h .entered f t q)))
     where
       tabled : {w : Window} {acts : List Act} → P 0 (core (r .sc)) w acts → P 0 (core (withFallen (r .sc) (r .bars) peer (m .bar))) w acts
       tabled p = fallen-way P (r .sc) (r .bars) peer (m .bar) p
@@ -71,5 +71,5 @@ map-reply P Q r peer m f h =
       passed = λ x t. f _ _ _ _ (h .passed x t);
       weighed = λ x t. f _ _ _ _ (h .weighed x t);
       counted = λ x t. f _ _ _ _ (h .counted x t);
-      entered = λ x t. f _ _ _ _ (h .entered x t);
+      entered = λ x t q. f _ _ _ _ (h .entered x t q);
     }

@@ -78,7 +78,7 @@ pub record Tells (r : Replica) (slot : ℕ) (acts : List Act) : Type 0 where
 abbrev tells : Replica → ℕ → Claim
 tells r slot a sc w acts = (acts ≡ []) ⊎ Tells r slot acts
 
-told-same : (r : Replica) (d : Done) → Whole (r .window) → place (r .sc) (d .slot) < r .window .len → r .window .len ≤ 64
+pub told-same : (r : Replica) (d : Done) → Whole (r .window) → place (r .sc) (d .slot) < r .window .len → r .window .len ≤ 64
     → (loggedAt r d .vote ≡ voteOf r (d .slot)) × (loggedAt r d .ballot ≡ atPlace (r .window) (place (r .sc) (d .slot)) .ballot)
 told-same r d h l u =
     let e = logged-same r d h l u in

@@ -109,7 +109,7 @@ module _ (w : Window) (r : Replica) (peer : ℕ) (m : Reply) (h : Whole (r .wind
         passed = λ f t. wide f;
         weighed = λ f t. weigh f;
         counted = λ f t. count-up f;
-        entered = λ f t i.
+        entered = λ f t q i.
             sweep-keeps vote (λ k s. enteredSlot s) (λ k s. entered-keeps vote (λ s n. refl) s) (place (r .sc) (m .trigger)) (countedWindow r peer m .len) (countedWindow r peer m) i ∙ count-up f i;
       }
 
@@ -136,7 +136,7 @@ log-votes r d h =
       promised = λ x n. e;
       acked = λ x. put _ refl;
       commits = λ x k q. put _ refl;
-      answered = λ x. e;
+      answered = λ x n. e;
       passes = λ x i.
           sweep-keeps vote (λ k s. passedSlot s) (λ k s. passed-keeps vote (λ s n. refl) s) (passFrom (logged r d)) (passStop (logged r d)) (logged r d .window) i ∙ e i;
     }
@@ -318,7 +318,7 @@ takes-held r room k s x =
     (λ peer slot ballot b. held-one (eqb slot s && acts (step r room (callAccept peer slot ballot b))) x (voteOf r s) (record { ballot = ballot; batch = clean b })) (λ c n e. tt) k
 
 -- everything taken in a history is not below what was seen before it
-taken-above : (r : Replica) (h : List Lent) (s : ℕ) → All (λ (v : Vote). r .sc .«bal_max_seen» ≤ v .ballot) (taken r h s)
+pub taken-above : (r : Replica) (h : List Lent) (s : ℕ) → All (λ (v : Vote). r .sc .«bal_max_seen» ≤ v .ballot) (taken r h s)
 taken-above r [] s = tt
 taken-above r (c ∷ h) s =
     all-append (λ (v : Vote). r .sc .«bal_max_seen» ≤ v .ballot) (takes r c s) (taken (told r c .replica) h s)
