@@ -1,9 +1,9 @@
 -- Where `step` differs from "Paxos Made Simple": each difference as a theorem, and as a run from a new replica, closed by computation.
-use mathlib.Core.Path.{_≡_, refl, sym}
+use mathlib.Core.Path.{_≡_, refl, sym, ap, _∙_}
 use mathlib.Core.Bool.{Bool, true, false, not, _&&_}
-use mathlib.Core.List.{List, [], _∷_, _++_, List·Memᴰ·head, List·Memᴰ·tail, Memᴰ·append-right}
+use mathlib.Core.List.{List, [], _∷_, _++_, List·Memᴰ·not-nil, List·Memᴰ·head, List·Memᴰ·tail, Memᴰ·append-right}
 use Prim.Native.Nat.{ℕ, _+_, _≤_, _<_}
-use native.Mathlib.Nat.{le-of-eq}
+use native.Mathlib.Nat.{le-refl, le-of-eq}
 use lib.Dec.{T, eqb}
 use lib.ListN.{replicate}
 use borrow.Author.Tests.{le-ltb, eq-eqb, le-leb, leb-true, ltb-true, lt-ltb}
@@ -15,26 +15,31 @@ use Rattle.batch.specs.Batches.{isBatch, makeBatch, sameList}
 use Rattle.batch.specs.Keys.{placeIn, noteKey, noteKeys, newKeys, overfullIn, overfull}
 use Rattle.tally.specs.Open.{fitReads}
 use Rattle.actions.specs.Actions.{flat, bare}
-use Rattle.slots.specs.Slots.{noVote, fitSlot}
+use Rattle.slots.specs.declared.Slot.{Slot}
+use Rattle.slots.specs.Slots.{noVote, nullSlot, preparing, accepting, preparedSlot, fitSlot}
 use Rattle.decide.specs.declared.Reply.{Reply}
 use Rattle.decide.specs.Scalars.{leads, isPeer, fitScalars}
 use Rattle.decide.specs.Bars.{notAbove, leastMajority, withBar, withFallen}
 use Rattle.decide.specs.Decide.{decideAccept, decideAcceptReply, decideVote, decideCount, decidePromised, decideAccepted, decideOffer}
-use Rattle.window.specs.Window.{slotAt, fitSlots, lastUsed, firstOpen, lastOpen, filled}
-use Rattle.window.specs.Acts.{redoActs}
+use Rattle.window.specs.Window.{slotAt, fitSlots, lastUsed, firstOpen, lastOpen, markStop, filled}
+use Rattle.window.specs.Places.{filled-has, filled-most}
+use Rattle.window.specs.ByPlace.{atPlace, put-at, sweep-at}
+use Rattle.window.specs.Acts.{promise, redoActs}
 use Rattle.replica.specs.declared.Replica.{Replica}
 use Rattle.replica.specs.declared.Entry.the-variants.{PrepareBal, AcceptData}
-use Rattle.replica.specs.Record.{kept, newReplica, noting, settled, number}
+use Rattle.replica.specs.Record.{Outcome, kept, newReplica, noting, settled, place, number}
 use Rattle.replica.specs.Fit.{ready, fit}
-use Rattle.replica.specs.Messages.{prepareOn, prepareStep, countedOn, votedOn, repliedOn, replyOn, prepareReplyStep, acceptStep, acceptReplyStep, clean}
-use Rattle.replica.specs.Leadership.{leadOn, stepUp, timeoutStep}
+use Rattle.replica.specs.Messages.{prepareBook, prepareOn, prepareStep, countedOn, votedOn, repliedOn, replyOn, prepareReplyStep, acceptStep, acceptReplyStep, clean}
+use Rattle.replica.specs.Leadership.{leadOn, stepUp, timeoutStep, markOn, commitNoticeStep}
 use Rattle.replica.specs.Durability.{preparedDone, movedAccept, acceptedDone, passOn, passStop, committedDone, loggedOn, loggedStep}
 use Rattle.replica.specs.Added.{offerStep}
-use Rattle.replica.specs.Step.{Call, callPrepare, callPrepareReply, callAccept, callAcceptReply, callTimeout, callLogged, callOffer, step}
+use Rattle.replica.specs.Step.{Call, callPrepare, callPrepareReply, callAccept, callAcceptReply, callCommitNotice, callTimeout, callLogged, callOffer, step}
+use Rattle.laws.specs.OfFit.{fit-facts}
+use Rattle.laws.specs.WaysMessages.{prepareWindow, prepareEnd, prepareStep-ways, acceptWindow, acceptStep-ways}
 use Rattle.laws.specs.WaysLeadership.{leadWindow, leadTrigger, leadFrom, timeoutStep-ways}
 use Rattle.voting.specs.Paper.{answersPrepare, mayAccept}
-use Rattle.voting.specs.Windows.{Whole}
-use Rattle.voting.specs.Promises.{PrepareActs, AcceptActs}
+use Rattle.voting.specs.Windows.{Whole, whole-grown}
+use Rattle.voting.specs.Promises.{PrepareActs, AcceptActs, acceptEntry, acceptHigh, accept-told}
 use Rattle.voting.specs.Reached.{Good, reached-prepare-iff, reached-accept-iff}
 use Rattle.voting.specs.Votes.{voteOf, vote-step}
 use Rattle.base.specs.Among.{_∈_}
@@ -42,7 +47,7 @@ use Rattle.base.specs.Gather.{gather}
 use Rattle.actions.specs.declared.Action.the-variants.{Prepare}
 use Rattle.voting.specs.Claims.{Claim, of}
 use mathlib.Core.Logic.{_⊎_, inl, inr, _↔_}
-use Rattle.base.specs.Pick.{same?}
+use Rattle.base.specs.Pick.{same?, larger-left}
 use native.Mathlib.Omega.{arith}
 
 -- ── 2.2: a Prepare at the largest ballot seen is answered again: the paper's acceptor answers only a larger one ──
@@ -109,6 +114,49 @@ pub deposed-4 : (r : Replica) (room peer : ℕ) (m : Reply) → ready r room ≡
 unfolding prepareReplyStep replyOn
 deposed-4 r room peer m f p v l b d =
     rw (f, p, v, le-ltb (m .slot) (r .sc .start) l, eq-eqb (m .ballot) (r .sc .«bal_prep_sent») b, d)
+
+-- ── 2.3: a learner forgets: a Prepare or an Accept that acts puts its slot back, whatever its status, Committed and Executed too ──
+pub prepare-puts-back : (r : Replica) (room peer trigger ballot : ℕ) → Whole (r .window) → promise trigger ballot ∈ step r room (callPrepare peer trigger ballot) .actions
+    → atPlace (step r room (callPrepare peer trigger ballot) .replica .window) (place (r .sc) trigger) .status ≡ preparing
+prepare-puts-back r room peer trigger ballot h =
+    prepareStep-ways (λ (o : Outcome). promise trigger ballot ∈ o .actions → atPlace (o .replica .window) (place (r .sc) trigger) .status ≡ preparing) r room peer trigger ballot
+    (λ a l m. absurd (List·Memᴰ·not-nil m))
+    (λ f m.
+    let i : ℕ = place (r .sc) trigger in
+    let has = filled-has nullSlot (r .window) (i + 1) in
+    let most = filled-most nullSlot (r .window) (i + 1) 64 (fit-facts r (f .fits) .numbers .window) (omega (arith, f .high)) in
+    let long = whole-grown (r .window) (i + 1) h in
+    let top = larger-left i (lastUsed (prepareWindow r trigger)) in
+    ap (λ (s : Slot). s .status)
+    (sweep-at (λ k s. preparedSlot ballot (prepareBook (r .sc) (prepareWindow r trigger) i peer) s) i (prepareEnd r trigger) (prepareWindow r trigger) i (omega arith) (le-refl i)
+    (omega arith) (omega arith)))
+
+pub accept-puts-back : (r : Replica) (room peer slot ballot : ℕ) (b : Batch) → Whole (r .window) → acceptEntry slot ballot b ∈ step r room (callAccept peer slot ballot b) .actions
+    → atPlace (step r room (callAccept peer slot ballot b) .replica .window) (place (r .sc) slot) .status ≡ accepting
+accept-puts-back r room peer slot ballot b h =
+    acceptStep-ways (λ (o : Outcome). acceptEntry slot ballot b ∈ o .actions → atPlace (o .replica .window) (place (r .sc) slot) .status ≡ accepting) r room peer slot ballot b
+    (λ a l m. absurd (List·Memᴰ·not-nil m))
+    (λ f m.
+    let i : ℕ = place (r .sc) slot in
+    let has = filled-has nullSlot (r .window) (i + 1) in
+    let most = filled-most nullSlot (r .window) (i + 1) 64 (fit-facts r (f .fits) .numbers .window) (omega (arith, f .high)) in
+    let long = whole-grown (r .window) (i + 1) h in
+    ap (λ (s : Slot). s .status) (put-at (acceptWindow r slot) i _ (omega arith) (omega arith)))
+
+-- ── 2.2, P1a: a proposal that the paper's acceptor accepts, in a batch's numbers and from the ballot's owner, is refused where the slot lies past the
+-- window (5), where the slot has a larger ballot (6: on no replica reached from a new one, never-high-accept), and where the key table is full (7) ──
+module _ (r : Replica) (room peer slot ballot : ℕ) (b : Batch) (f : ready r room ≡ true) (p : isPeer (r .sc) peer ≡ true) (o : owns ballot peer ≡ true)
+    (q : isBatch (b .id) (b .count) ≡ true) (l : r .sc .start ≤ slot) (may : mayAccept (r .sc .«bal_max_seen») ballot ≡ true) where
+  pub accept-5 : r .sc .start + 64 ≤ slot → step r room (callAccept peer slot ballot b) ≡ kept 5 r
+  unfolding acceptStep
+  accept-5 u = rw (f, p, o, q, le-ltb slot (r .sc .start) l, le-ltb ballot (r .sc .«bal_max_seen») (leb-true _ _ may), le-leb (r .sc .start + 64) slot u)
+
+  module _ (u : slot < r .sc .start + 64) where
+    pub accept-6 : acceptHigh r slot ballot ≡ true → step r room (callAccept peer slot ballot b) ≡ kept 6 r
+    accept-6 h = accept-told r room peer slot ballot b f p o q l u ∙ rw (le-ltb ballot (r .sc .«bal_max_seen») (leb-true _ _ may), h)
+
+    pub accept-7 : acceptHigh r slot ballot ≡ false → overfull (r .keys) (clean b) ≡ true → step r room (callAccept peer slot ballot b) ≡ kept 7 r
+    accept-7 h k = accept-told r room peer slot ballot b f p o q l u ∙ rw (le-ltb ballot (r .sc .«bal_max_seen») (leb-true _ _ may), h, k)
 
 -- ── runs ──
 -- what is looked at after a call: the slots present, the largest ballot seen, the believed leader, bal_prepared; the status, batch and vote
@@ -225,8 +273,45 @@ differences =
     ∷ turn (callPrepare 1 0 258) 0 (looks 1 258 1 0 1 0 0 0 0) (row 11 0 0 0 0 0 0 0 ++ prepareBal 0 258)
     ∷ turn (callPrepareReply 2 (reply 0 0 257)) 4 (looks 1 258 1 0 1 0 0 0 0) []
     ∷ [])
+    -- a learner forgets: slot 0 is marked at 257, and a Prepare at 258 puts it back to Preparing
+    ∷ run 2
+    (turn (callAccept 0 0 257 (batchOf 7)) 0 (looks 1 257 0 0 2 7 257 7 0) (row 2 0 0 0 0 257 0 7)
+    ∷ turn (callCommitNotice 0 257 1) 0 (looks 1 257 0 0 3 7 257 7 0) (row 3 0 0 0 0 0 0 0)
+    ∷ turn (callPrepare 1 0 258) 0 (looks 1 258 1 0 1 7 257 7 0) (prepareBal 0 258)
+    ∷ [])
+    -- and so does the same Accept, come twice, back to Accepting
+    ∷ run 2
+    (turn (callAccept 0 0 257 (batchOf 7)) 0 (looks 1 257 0 0 2 7 257 7 0) (row 2 0 0 0 0 257 0 7)
+    ∷ turn (callCommitNotice 0 257 1) 0 (looks 1 257 0 0 3 7 257 7 0) (row 3 0 0 0 0 0 0 0)
+    ∷ turn (callAccept 0 0 257 (batchOf 7)) 0 (looks 1 257 0 0 2 7 257 7 0) (row 2 0 0 0 0 257 0 7)
+    ∷ [])
+    -- a member's own step-up raises its promise before anything is durable: 257 is ignored at once
+    ∷ run 2
+    (turn (callTimeout 2) 0 (looks 1 259 2 0 1 0 0 0 0) (row 10 0 0 0 0 0 0 0 ++ row 9 255 0 0 0 0 0 0 ++ prepareBal 0 259 ++ row 4 255 0 0 0 259 0 0)
+    ∷ turn (callPrepare 0 0 257) 0 (looks 1 259 2 0 1 0 0 0 0) []
+    ∷ [])
+    -- a stopped member has no way back: it promises 258, and made anew under its id it accepts at 257
+    ∷ run 2
+    (turn (callPrepare 1 0 258) 0 (looks 1 258 1 0 1 0 0 0 0) (prepareBal 0 258)
+    ∷ turn (callLogged (record { entry = PrepareBal; slot = 0; size = 40 })) 0 (looks 1 258 1 0 1 0 0 0 0) (row 5 1 0 0 0 258 0 0)
+    ∷ [])
+    ∷ run 2 (turn (callAccept 0 0 257 (batchOf 7)) 0 (looks 1 257 0 0 2 7 257 7 0) (row 2 0 0 0 0 257 0 7) ∷ [])
+    -- 5: a proposal for slot 64 that the paper's acceptor would accept
+    ∷ run 2 (turn (callAccept 0 64 257 (batchOf 7)) 5 (looks 0 0 255 0 0 0 0 0 0) [] ∷ [])
+    -- a reply names its trigger itself: one at 513 that names slot 0, committed at 257, is counted in that ballot's set {0, 1}, and slot 1 enters
+    -- Accept though member 2 alone has answered at 513
+    ∷ run 0
+    (turn (callTimeout 0) 0 (looks 1 257 0 0 1 0 0 0 0) (row 10 0 0 0 0 0 0 0 ++ row 9 255 0 0 0 0 0 0 ++ prepareBal 0 257 ++ row 4 255 0 0 0 257 0 0)
+    ∷ turn (callPrepareReply 1 (reply 0 0 257)) 0 (looks 1 257 0 0 1 0 0 0 0) []
+    ∷ turn (callLogged (record { entry = PrepareBal; slot = 0; size = 40 })) 0 (looks 1 257 0 257 2 0 0 0 0) (acceptBoth 0 257 0)
+    ∷ turn (callAcceptReply 1 0 257) 0 (looks 1 257 0 257 2 0 0 0 0) []
+    ∷ turn (callAcceptReply 2 0 257) 0 (looks 1 257 0 257 3 0 0 0 0) (row 3 0 0 0 0 0 0 0)
+    ∷ turn (callPrepare 1 1 258) 0 (looks 2 258 1 257 3 0 0 0 1) (row 11 0 0 0 0 0 0 0 ++ prepareBal 1 258)
+    ∷ turn (callTimeout 1) 0 (looks 2 513 0 0 3 0 0 0 1) (row 10 0 0 0 0 0 0 0 ++ row 9 255 0 0 0 0 0 0 ++ prepareBal 1 513 ++ row 4 255 0 1 0 513 0 0)
+    ∷ turn (callPrepareReply 2 (reply 1 1 513)) 0 (looks 2 513 0 513 3 0 0 0 2) (acceptBoth 1 513 0)
+    ∷ [])
     ∷ []
 
 pub differences-hold : T (all-go differences)
-unfolding all-go differences goes newReplica fit fitScalars fitSlots fitReads fitSlot filled noting settled prepareOn prepareStep lastUsed countedOn votedOn repliedOn replyOn prepareReplyStep acceptStep acceptReplyStep firstOpen lastOpen leadOn stepUp timeoutStep preparedDone movedAccept acceptedDone passOn passStop committedDone loggedOn loggedStep offerStep decideAccept decideAcceptReply decideVote decideCount decidePromised decideAccepted decideOffer notAbove leastMajority withBar withFallen has insert count countIn makeBatch noteKey noteKeys newKeys placeIn overfullIn scan
+unfolding all-go differences goes newReplica fit fitScalars fitSlots fitReads fitSlot filled noting settled prepareOn prepareStep lastUsed countedOn votedOn repliedOn replyOn prepareReplyStep acceptStep acceptReplyStep firstOpen lastOpen leadOn stepUp timeoutStep preparedDone movedAccept acceptedDone passOn passStop committedDone loggedOn loggedStep offerStep markOn markStop commitNoticeStep decideAccept decideAcceptReply decideVote decideCount decidePromised decideAccepted decideOffer notAbove leastMajority withBar withFallen has insert count countIn makeBatch noteKey noteKeys newKeys placeIn overfullIn scan
 differences-hold = tt

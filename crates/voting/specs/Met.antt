@@ -1,8 +1,10 @@
 -- The theorems' hypotheses are met: runs from a new replica, computed.
-use mathlib.Core.Path.{_≡_, refl}
-use mathlib.Core.List.{List, [], _∷_, _++_, map}
+use mathlib.Core.Path.{_≡_, refl, sym, subst, _∙_}
+use mathlib.Core.List.{List, [], _∷_, _++_, map, List·Memᴰ·head}
 use mathlib.Core.Logic.{inr}
-use Prim.Native.Nat.{ℕ}
+use Prim.Native.Nat.{ℕ, _<_}
+use native.Mathlib.Omega.{arith}
+use Rattle.base.specs.Among.{_∈_}
 use Rattle.base.specs.Scan.{scan}
 use Rattle.members.specs.Sets.{has, insert, count, countIn}
 use Rattle.batch.specs.Batches.{makeBatch}
@@ -11,25 +13,27 @@ use Rattle.tally.specs.Open.{fitReads}
 use Rattle.slots.specs.declared.Vote.{Vote}
 use Rattle.slots.specs.Slots.{fitSlot}
 use Rattle.decide.specs.Bars.{notAbove, leastMajority, withBar, withFallen}
-use Rattle.decide.specs.Decide.{decideAccept, decideVote, decideCount}
+use Rattle.decide.specs.Decide.{decideAccept, decideAcceptReply, decideVote, decideCount, decidePromised, decideAccepted}
 use Rattle.decide.specs.Scalars.{fitScalars}
-use Rattle.window.specs.Window.{fitSlots, firstOpen, lastOpen, filled}
+use Rattle.window.specs.Window.{fitSlots, lastUsed, firstOpen, lastOpen, filled}
 use Rattle.window.specs.ByPlace.{atPlace}
 use Rattle.replica.specs.declared.Replica.{Replica}
-use Rattle.replica.specs.declared.Entry.the-variants.{PrepareBal}
-use Rattle.replica.specs.Record.{newReplica, noting, settled}
+use Rattle.replica.specs.declared.Entry.the-variants.{PrepareBal, AcceptData}
+use Rattle.replica.specs.Record.{newReplica, noting, settled, place}
 use Rattle.replica.specs.Fit.{fit}
-use Rattle.replica.specs.Messages.{countedOn, votedOn, repliedOn, replyOn, prepareReplyStep, acceptStep}
+use Rattle.replica.specs.Messages.{prepareOn, prepareStep, countedOn, votedOn, repliedOn, replyOn, prepareReplyStep, acceptStep, acceptReplyStep}
 use Rattle.replica.specs.Leadership.{leadOn, stepUp, timeoutStep}
-use Rattle.replica.specs.Durability.{preparedDone, loggedOn, loggedStep}
-use Rattle.replica.specs.Step.{Call, callPrepareReply, callAccept, callTimeout, callLogged}
+use Rattle.replica.specs.Durability.{preparedDone, movedAccept, acceptedDone, loggedOn, loggedStep}
+use Rattle.replica.specs.Step.{Call, callPrepare, callPrepareReply, callAccept, callAcceptReply, callTimeout, callLogged, step}
 use Rattle.voting.specs.History.{Lent, told, play}
-use Rattle.voting.specs.Reached.{Good, good-new}
+use Rattle.voting.specs.Promises.{play-grows}
+use Rattle.voting.specs.Reached.{Good, good-new, good-play}
 use Rattle.voting.specs.Votes.{voteOf, taken}
-use Rattle.voting.specs.Quorums.{kindOf}
+use Rattle.voting.specs.Quorums.{kindOf, commitOf, acksOf, commit-by-own, commit-by-reply, commits-meet}
+use Rattle.voting.specs.Backing.{stands}
 use Rattle.voting.specs.Heard.{Reign, heardIn, heldAt, best}
-use Rattle.voting.specs.Differences.{voting, batchOf}
-use mathlib.Core.Bool.{false}
+use Rattle.voting.specs.Differences.{reply, voting, batchOf}
+use mathlib.Core.Bool.{true, false}
 use Rattle.voting.specs.Paper.{answersPrepare}
 
 abbrev pub lend : Call → Lent
@@ -113,3 +117,69 @@ own-reign-met = (
 pub own-sends : map kindOf (told (play stepped ownLast) ownEntry .actions) ≡ 2 ∷ 6 ∷ []
 unfolding ownLast newReplica fit fitScalars fitSlots fitReads fitSlot filled noting settled countedOn votedOn repliedOn replyOn prepareReplyStep firstOpen lastOpen leadOn stepUp timeoutStep preparedDone loggedOn loggedStep decideVote decideCount notAbove leastMajority withBar withFallen has insert count countIn makeBatch noteKey noteKeys newKeys placeIn overfullIn scan
 own-sends = refl
+
+-- ── a majority answers: 1 and self have answered at 257, and 3's reply makes three of five: the slot is at 257, and its set is {0, 1, 3} ──
+abbrev pub first : Replica
+first = newReplica 0 5 0 0 .replica
+
+unfoldable pub asked : List Lent
+asked = lend (callTimeout 0) ∷ lend (callPrepareReply 1 (reply 0 0 257)) ∷ lend (callLogged (record { entry = PrepareBal; slot = 0; size = 40 })) ∷ []
+
+abbrev pub third : Lent
+third = lend (callPrepareReply 3 (reply 0 0 257))
+
+pub asked-sends : map kindOf (told (play first asked) third .actions) ≡ 2 ∷ 6 ∷ []
+unfolding asked newReplica fit fitScalars fitSlots fitReads fitSlot filled noting settled countedOn votedOn repliedOn replyOn prepareReplyStep prepareOn prepareStep lastUsed acceptReplyStep firstOpen lastOpen leadOn stepUp timeoutStep preparedDone movedAccept acceptedDone loggedOn loggedStep decideVote decideCount decidePromised decideAccepted decideAcceptReply notAbove leastMajority withBar withFallen has insert count countIn makeBatch noteKey noteKeys newKeys placeIn overfullIn scan
+asked-sends = refl
+
+pub asked-stands : (stands (told (play first asked) third .replica) 0 .ballot ≡ 257) × (stands (told (play first asked) third .replica) 0 .prepare ≡ 11)
+unfolding atPlace asked newReplica fit fitScalars fitSlots fitReads fitSlot filled noting settled countedOn votedOn repliedOn replyOn prepareReplyStep prepareOn prepareStep lastUsed acceptReplyStep firstOpen lastOpen leadOn stepUp timeoutStep preparedDone movedAccept acceptedDone loggedOn loggedStep decideVote decideCount decidePromised decideAccepted decideAcceptReply notAbove leastMajority withBar withFallen has insert count countIn makeBatch noteKey noteKeys newKeys placeIn overfullIn scan
+asked-stands = (refl, refl)
+
+-- ── a promise: member 2 answers 0's Prepare at 257 once its entry is durable ──
+unfoldable pub promised : List Lent
+promised = lend (callPrepare 0 0 257) ∷ []
+
+pub promise-sent : map kindOf (told (play member promised) (lend (callLogged (record { entry = PrepareBal; slot = 0; size = 40 }))) .actions) ≡ 5 ∷ []
+unfolding promised newReplica fit fitScalars fitSlots fitReads fitSlot filled noting settled countedOn votedOn repliedOn replyOn prepareReplyStep prepareOn prepareStep lastUsed acceptReplyStep firstOpen lastOpen leadOn stepUp timeoutStep preparedDone movedAccept acceptedDone loggedOn loggedStep decideVote decideCount decidePromised decideAccepted decideAcceptReply notAbove leastMajority withBar withFallen has insert count countIn makeBatch noteKey noteKeys newKeys placeIn overfullIn scan
+promise-sent = refl
+
+-- ── two commits: member 0 of three by its own entry, after 1's reply; member 1 by the replies of 0 and 2 ──
+abbrev pub leader : ℕ → Replica
+leader id = newReplica id 3 0 0 .replica
+
+pub leader-good : (id : ℕ) → newReplica id 3 0 0 .answer ≡ 0 → Good (leader id .sc) (leader id .window)
+leader-good id e = good-new id 3 0 0 e
+
+unfoldable pub byOwn : List Lent
+byOwn =
+    lend (callTimeout 0) ∷ lend (callPrepareReply 1 (reply 0 0 257)) ∷ lend (callLogged (record { entry = PrepareBal; slot = 0; size = 40 })) ∷ lend (callAcceptReply 1 0 257) ∷ []
+
+unfoldable pub byReply : List Lent
+byReply =
+    lend (callTimeout 1) ∷ lend (callPrepareReply 0 (reply 0 0 258)) ∷ lend (callPrepareReply 2 (reply 0 0 258)) ∷ lend (callAcceptReply 0 0 258) ∷ []
+
+pub own-commits-met : commitOf 0 ∈ step (play (leader 0) byOwn) 3456 (callLogged (record { entry = AcceptData; slot = 0; size = 80 })) .actions
+unfolding byOwn newReplica fit fitScalars fitSlots fitReads fitSlot filled noting settled countedOn votedOn repliedOn replyOn prepareReplyStep prepareOn prepareStep lastUsed acceptReplyStep firstOpen lastOpen leadOn stepUp timeoutStep preparedDone movedAccept acceptedDone loggedOn loggedStep decideVote decideCount decidePromised decideAccepted decideAcceptReply notAbove leastMajority withBar withFallen has insert count countIn makeBatch noteKey noteKeys newKeys placeIn overfullIn scan
+own-commits-met = List·Memᴰ·head refl
+
+pub reply-commits-met : commitOf 0 ∈ step (play (leader 1) byReply) 3456 (callAcceptReply 2 0 258) .actions
+unfolding byReply newReplica fit fitScalars fitSlots fitReads fitSlot filled noting settled countedOn votedOn repliedOn replyOn prepareReplyStep prepareOn prepareStep lastUsed acceptReplyStep firstOpen lastOpen leadOn stepUp timeoutStep preparedDone movedAccept acceptedDone loggedOn loggedStep decideVote decideCount decidePromised decideAccepted decideAcceptReply notAbove leastMajority withBar withFallen has insert count countIn makeBatch noteKey noteKeys newKeys placeIn overfullIn scan
+reply-commits-met = List·Memᴰ·head refl
+
+-- so the hypotheses of commit-by-own, commit-by-reply and commits-meet are met
+pub commits-met : (m : ℕ) × (m < 3)
+    × (has (acksOf (step (play (leader 0) byOwn) 3456 (callLogged (record { entry = AcceptData; slot = 0; size = 80 })) .replica .window) (place (play (leader 0) byOwn .sc) 0)) m ≡ true)
+    × (has (acksOf (step (play (leader 1) byReply) 3456 (callAcceptReply 2 0 258) .replica .window) (place (play (leader 1) byReply .sc) 0)) m ≡ true)
+unfolding newReplica
+commits-met =
+    let g = play-grows (leader 0) byOwn .group in
+    let k = play-grows (leader 1) byReply .group in
+    subst
+    (λ (n : ℕ). (m : ℕ) × (m < n)
+    × (has (acksOf (step (play (leader 0) byOwn) 3456 (callLogged (record { entry = AcceptData; slot = 0; size = 80 })) .replica .window) (place (play (leader 0) byOwn .sc) 0)) m ≡ true)
+    × (has (acksOf (step (play (leader 1) byReply) 3456 (callAcceptReply 2 0 258) .replica .window) (place (play (leader 1) byReply .sc) 0)) m ≡ true))
+    g
+    (commits-meet (play (leader 0) byOwn) (play (leader 1) byReply) _ _ (place (play (leader 0) byOwn .sc) 0) (place (play (leader 1) byReply .sc) 0) _ 2 (g ∙ sym k) (omega arith)
+    (commit-by-own (play (leader 0) byOwn) 3456 0 80 (good-play (leader 0) byOwn (leader-good 0 refl) .whole) own-commits-met)
+    (commit-by-reply (play (leader 1) byReply) 3456 2 0 258 (good-play (leader 1) byReply (leader-good 1 refl) .whole) reply-commits-met))
