@@ -30,7 +30,7 @@ pub any-entry : (a : Act) (p : Proposal) → a .what ≡ AcceptData p → a ≡ 
 any-entry a p e = λ k. record { what = e k; keys = a .keys }
 
 -- a slot that is not null is in the log
-numbered-here : (from : ℕ) (w : Window) (s : ℕ) → 0 < numbered from w s .status → (from ≤ s) × (s < from + w .len)
+pub numbered-here : (from : ℕ) (w : Window) (s : ℕ) → 0 < numbered from w s .status → (from ≤ s) × (s < from + w .len)
 unfolding numbered
 numbered-here from w s h = go (decide (ltb s from)) h
   where

@@ -11,3 +11,5 @@ pub mod Local
 pub mod Group
 pub mod Commits
 pub mod Runs
+pub mod Acks
+pub mod ChosenIf

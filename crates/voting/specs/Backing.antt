@@ -85,7 +85,7 @@ abbrev backed : Replica → (ℕ → Type 0) → (ℕ → Type 0) → ℕ → Cl
 backed r P A i a sc w acts = leads sc ≡ true → atPlace w i .ballot ≡ sc .«bal_prep_sent» → Backed r P A i (sc .«bal_prep_sent») (standing (atPlace w i))
 
 -- ── the ways in which a set can change ──
-insert-or : (set p q : ℕ) → has (insert set p) q ≡ true → (q ≡ p) ⊎ (has set q ≡ true)
+pub insert-or : (set p q : ℕ) → has (insert set p) q ≡ true → (q ≡ p) ⊎ (has set q ≡ true)
 insert-or set p q h = go (decide (ltb 511 set)) (decide (ltb 8 p))
   where
     go : (ltb 511 set ≡ true) ⊎ (ltb 511 set ≡ false) → (ltb 8 p ≡ true) ⊎ (ltb 8 p ≡ false) → (q ≡ p) ⊎ (has set q ≡ true)

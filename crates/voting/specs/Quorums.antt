@@ -11,7 +11,6 @@ use Rattle.members.specs.Laws.{within-insert}
 use Rattle.actions.specs.declared.Action.the-variants.{CommitSlot}
 use Rattle.actions.specs.Actions.{Act, bare, numbersOf}
 use Rattle.slots.specs.declared.LeaderBook.{LeaderBook}
-use Rattle.slots.specs.declared.Vote.{Vote}
 use Rattle.slots.specs.declared.Slot.{Slot}
 use Rattle.slots.specs.Slots.{committedSlot, acknowledgedSlot, committed, loggedSlot, accepting}
 use Rattle.decide.specs.Scalars.{leads, quorum}
@@ -22,14 +21,14 @@ use Rattle.window.specs.ByPlace.{atPlace, put-at, at-here}
 use Rattle.replica.specs.declared.Replica.{Replica}
 use Rattle.replica.specs.declared.Done.{Done}
 use Rattle.replica.specs.declared.Entry.the-variants.{PrepareBal, AcceptData, CommitSlot as CommitEntry}
-use Rattle.replica.specs.Record.{place}
+use Rattle.replica.specs.Record.{Outcome, place}
 use Rattle.replica.specs.Fit.{fit}
 use Rattle.replica.specs.Durability.{loggedOn}
 use Rattle.replica.specs.Step.{callAcceptReply, callLogged, step}
 use Rattle.laws.specs.OfFit.{fit-facts}
 use Rattle.laws.specs.WaysMessages.{acceptReplyStep-ways}
 use Rattle.laws.specs.WaysDurability.{logged, loggedAt, Logs, other-entry}
-use Rattle.voting.specs.Paper.{Majority, quorum-is-majority, majorities-meet, Chosen}
+use Rattle.voting.specs.Paper.{Majority, quorum-is-majority, majorities-meet}
 use Rattle.voting.specs.Windows.{Whole, whole-put}
 use Rattle.voting.specs.Keeping.{logged-keeps}
 use Rattle.voting.specs.Claims.{Claim, of}
@@ -91,10 +90,11 @@ commit-by-reply r room peer slot ballot h =
     (λ f q m. committed-by r (r .window) (place (r .sc) slot) peer (slotAt (r .window) (place (r .sc) slot)) (f .fits) h refl
     (let x = f .low in let y = f .high in omega arith) (f .peer-is .member) refl refl (f .counts .leading) (f .counts .status) (f .counts .new) q)
 
--- 2.2: where each member that acknowledged has accepted a proposal, the proposal is chosen
-pub commit-chosen : (r : Replica) (w : Window) (i peer : ℕ) → Committed r w i peer → (accepted : ℕ → Vote → Type 0) (v : Vote)
-    → ((m : ℕ) → has (acksOf w i) m ≡ true → accepted m v) → Chosen (r .sc .group) accepted v
-commit-chosen r w i peer c accepted v h = (acksOf w i, c .majority, h)
+-- the slot is at the reply's ballot
+pub commit-at : (r : Replica) (room peer slot ballot : ℕ) → commitOf slot ∈ step r room (callAcceptReply peer slot ballot) .actions → atPlace (r .window) (place (r .sc) slot) .ballot ≡ ballot
+commit-at r room peer slot ballot =
+    acceptReplyStep-ways (λ (o : Outcome). commitOf slot ∈ o .actions → atPlace (r .window) (place (r .sc) slot) .ballot ≡ ballot) r room peer slot ballot (λ a l. never slot) (λ f q. never slot)
+    (λ f q m. ap (λ (v : Slot). v .ballot) (at-here (r .window) (place (r .sc) slot) (let x = f .low in let y = f .high in omega arith)) ∙ f .counts .even)
 
 -- two slots committed by replies, at any two members of one group: their majorities share a member
 pub commits-meet : (r r′ : Replica) (w w′ : Window) (i j peer peer′ : ℕ) → r .sc .group ≡ r′ .sc .group → r .sc .group ≤ 9 → Committed r w i peer → Committed r′ w′ j peer′

@@ -1,0 +1,194 @@
+-- 2.2: a batch that a leader commits by replies, or by its own completion, is chosen where the run is truthful: then a majority has its accept entry.
+use mathlib.Core.Path.{_≡_, refl, sym, ap, subst, _∙_}
+use mathlib.Core.Bool.{true}
+use mathlib.Core.List.{List, [], _∷_, List·Memᴰ·not-nil}
+use mathlib.Core.Logic.{_⊎_, inl, inr}
+use Prim.Native.Nat.{ℕ, _+_, _-_, _≤_, _<_}
+use native.Mathlib.Omega.{arith}
+use lib.Dec.{eqb}
+use Rattle.base.specs.Pick.{pick-cases}
+use Rattle.base.specs.Among.{_∈_, all-in}
+use Rattle.members.specs.Sets.{has, insert}
+use Rattle.batch.specs.declared.Batch.{Batch}
+use Rattle.actions.specs.declared.Action.{Action}
+use Rattle.actions.specs.declared.Accepted.{Accepted}
+use Rattle.actions.specs.declared.Action.the-variants.{AcceptReply}
+use Rattle.actions.specs.Actions.{Act}
+use Rattle.slots.specs.declared.Vote.{Vote}
+use Rattle.slots.specs.declared.Slot.{Slot}
+use Rattle.slots.specs.Slots.{accepting}
+use Rattle.decide.specs.Scalars.{leads, mayBe}
+use Rattle.window.specs.declared.Window.{Window}
+use Rattle.window.specs.ByPlace.{atPlace}
+use Rattle.replica.specs.declared.Replica.{Replica}
+use Rattle.replica.specs.declared.Made.{Made}
+use Rattle.replica.specs.declared.Entry.the-variants.{AcceptData}
+use Rattle.replica.specs.Record.{Outcome, newReplica, fresh, zeroReplica, place, number}
+use Rattle.replica.specs.Step.{Call, callAcceptReply, callLogged, step}
+use Rattle.laws.specs.Theorems.{refusals-silent, group-stays}
+use Rattle.voting.specs.Paper.{Majority, Chosen}
+use Rattle.voting.specs.Quorums.{commitOf, acksOf, Committed, commit-at, commit-by-reply, commit-by-own}
+use Rattle.voting.specs.Backing.{stands, Stood, insert-or}
+use Rattle.voting.specs.Speaking.{SaidOf, OnCompletion, says-ok}
+use Rattle.agreement.specs.BySlot.{numbered, numbered-at}
+use Rattle.agreement.specs.Theorem.{Group, World, slotOf, put, begin, May, Reach, begins, turn, acceptEntry}
+use Rattle.agreement.specs.Frame.{Marked, ActOk}
+use Rattle.agreement.specs.Group.{viewOf, each, old, cases, inv, good-in, framed, agreement-of}
+use Rattle.agreement.specs.Commits.{numbered-here}
+use Rattle.agreement.specs.Acks.{Replied, Truthful, reply-sent, fine-in, acks-sent}
+
+-- ── what is said ──
+-- member m has accepted the proposal v for slot s: its accept entry is in m's log
+abbrev pub AcceptedIn : World → ℕ → ℕ → Vote → Type 0
+AcceptedIn w s m v = acceptEntry s (v .ballot) (v .batch) ∈ w .did m
+
+-- the proposal that slot s of member l holds
+abbrev pub heldBy : World → ℕ → ℕ → Vote
+heldBy w l s = record { ballot = slotOf (w .replica l) s .ballot; batch = slotOf (w .replica l) s .batch }
+
+-- each member of a set is l itself, or has sent an AcceptReply for slot s at the ballot that l holds it at
+abbrev pub AllReplied : World → ℕ → ℕ → ℕ → Type 0
+AllReplied w l s set = (m : ℕ) → has set m ≡ true → (m ≡ l) ⊎ Replied w m s (heldBy w l s .ballot)
+
+-- ── every member's group is the group ──
+made-sized : (g : Group) (m : ℕ) → g .present m ≡ true → begin g .replica m .sc .group ≡ g .size
+unfolding begin newReplica
+made-sized g m p =
+    pick-cases (λ (z : Made). z .answer ≡ 0 → z .replica .sc .group ≡ g .size) (mayBe m (g .size) (g .start) (g .options m))
+    {a = record { answer = 0; replica = fresh m (g .size) (g .start) (g .options m) }}
+    {b = record { answer = 10; replica = zeroReplica }}
+    (λ t e. refl) (λ t e. absurd (omega arith)) (g .made m p)
+
+pub sized-in : (g : Group) (w : World) → Reach g w → (m : ℕ) → g .present m ≡ true → w .replica m .sc .group ≡ g .size
+sized-in g w begins = made-sized g
+sized-in g w (turn {w = u} r m p room c a) = λ j.
+    each u m (step (u .replica m) room c) (λ j r h. g .present j ≡ true → r .sc .group ≡ g .size) j (λ _. sized-in g u r j)
+    (λ _. group-stays (u .replica m) room c ∙ sized-in g u r m p)
+
+-- ── in a truthful run a reply has its accept entry ──
+numbered-place : (from : ℕ) (w : Window) (s : ℕ) → from ≤ s → numbered from w s ≡ atPlace w (s - from)
+numbered-place from w s l = let e : from + (s - from) ≡ s = omega arith in subst (λ (n : ℕ). numbered from w n ≡ atPlace w (s - from)) e (numbered-at from w (s - from))
+
+abbrev HasEntry : World → ℕ → ℕ → ℕ → Type 0
+HasEntry w m s ballot = (e : Batch) × (acceptEntry s ballot e ∈ w .did m)
+
+truthful-entry : (g : Group) (w : World) (r : Reach g w) → Truthful r → (m s ballot : ℕ) → Replied w m s ballot → HasEntry w m s ballot
+unfolding begin
+truthful-entry g w begins t m s ballot (y, h, x) = absurd (List·Memᴰ·not-nil h)
+truthful-entry g w (turn {w = u} r j p room c a) t m s ballot (y, h, (x, e, f, k)) = go (λ q. truthful-entry g u r (t .0) m s ballot (y, q, (x, e, f, k))) (cases u j (step (u .replica j) room c) m h)
+  where
+    o : Outcome
+    o = step (u .replica j) room c
+
+    lift : HasEntry u m s ballot → HasEntry (put u j o) m s ballot
+    lift (b, q) = (b, old u j o m q)
+
+    new : m ≡ j → y ∈ o .actions → HasEntry (put u j o) m s ballot
+    new z q =
+        let status = t .1 y x q e in
+        let here = numbered-here (u .replica j .sc .start) (u .replica j .window) (x .slot) (omega arith) in
+        let done : OnCompletion (u .replica j) c AcceptData (x .slot) (x .ballot) =
+        subst (λ (v : Action). SaidOf (u .replica j) c v) e (all-in (λ (v : Act). SaidOf (u .replica j) c (v .what)) (says-ok (u .replica j) room c (fine-in g u r j p)) q) in
+        let at : slotOf (u .replica j) (x .slot) .ballot ≡ ballot =
+        ap (λ (v : Slot). v .ballot) (numbered-place (u .replica j .sc .start) (u .replica j .window) (x .slot) (here .0)) ∙ sym (done .at) ∙ k in (
+          slotOf (u .replica j) (x .slot) .batch,
+          old u j o m
+              (subst (λ (n : ℕ). acceptEntry s ballot (slotOf (u .replica j) (x .slot) .batch) ∈ u .did n) (sym z)
+              (subst (λ (n : ℕ). acceptEntry n ballot (slotOf (u .replica j) (x .slot) .batch) ∈ u .did j) f
+              (subst (λ (b : ℕ). acceptEntry (x .slot) b (slotOf (u .replica j) (x .slot) .batch) ∈ u .did j) at (inv g u r .local j p .voted (x .slot) status)))),
+        )
+
+    go : (y ∈ u .did m → HasEntry u m s ballot) → (y ∈ u .did m) ⊎ ((m ≡ j) × (y ∈ o .actions)) → HasEntry (put u j o) m s ballot
+    go ih (inl q) = lift (ih q)
+    go ih (inr (z, q)) = new z q
+
+-- ── a leader commits ──
+module _ (g : Group) (w : World) (reach : Reach g w) (l : ℕ) (pres : g .present l ≡ true) (s : ℕ) where
+  abbrev r : Replica
+  r = w .replica l
+
+  -- from the slot that is Accepting at a leader, and its acknowledgements before the last one
+  module _ (peer : ℕ) (w′ : Window) (low : r .sc .start ≤ s) (c : Committed r w′ (place (r .sc) s) peer) (last : (peer ≡ l) ⊎ Replied w peer s (heldBy w l s .ballot)) where
+    here : slotOf r s ≡ atPlace (r .window) (place (r .sc) s)
+    here = numbered-place (r .sc .start) (r .window) s low
+
+    at-sent : atPlace (r .window) (place (r .sc) s) .ballot ≡ r .sc .«bal_prep_sent»
+    at-sent =
+        let k = good-in g w reach l pres in
+        k .each (place (r .sc) s) .busy (c .leading) (omega (arith, c .accepts)) (omega (arith, c .accepts)) ∙ sym (k .sent (c .leading))
+
+    all-replied : AllReplied w l s (acksOf w′ (place (r .sc) s))
+    all-replied m h = go (insert-or (acksOf (r .window) (place (r .sc) s)) peer m (subst (λ (x : ℕ). has x m ≡ true) (c .last) h))
+      where
+        before : (m ≡ l) ⊎ Replied w m (number (r .sc) (place (r .sc) s)) (r .sc .«bal_prep_sent») → (m ≡ l) ⊎ Replied w m s (heldBy w l s .ballot)
+        before (inl e) = inl e
+        before (inr (y, k, (x, e, f, b))) = inr (y, k, (x, e, (omega (arith, f)), b ∙ sym (ap (λ (v : Slot). v .ballot) here ∙ at-sent)))
+
+        go : (m ≡ peer) ⊎ (has (acksOf (r .window) (place (r .sc) s)) m ≡ true) → (m ≡ l) ⊎ Replied w m s (heldBy w l s .ballot)
+        go (inl e) = subst (λ (n : ℕ). (n ≡ l) ⊎ Replied w n s (heldBy w l s .ballot)) (sym e) last
+        go (inr k) = before (acks-sent g w reach l pres (place (r .sc) s) m (record { leading = c .leading; same = refl; at = at-sent }) k)
+
+    is-chosen : Truthful reach → Chosen (g .size) (AcceptedIn w s) (heldBy w l s)
+    is-chosen t = (
+      acksOf w′ (place (r .sc) s),
+      subst (λ (n : ℕ). Majority n (acksOf w′ (place (r .sc) s))) (sized-in g w reach l pres) (c .majority),
+      λ m h. go m (all-replied m h),
+    )
+      where
+        own : acceptEntry s (heldBy w l s .ballot) (heldBy w l s .batch) ∈ w .did l
+        own = inv g w reach .local l pres .voted s (ap (λ (v : Slot). v .status) here ∙ c .accepts)
+
+        same : (m : ℕ) → HasEntry w m s (heldBy w l s .ballot) → AcceptedIn w s m (heldBy w l s)
+        same m (e, h) =
+            subst (λ (b : Batch). acceptEntry s (heldBy w l s .ballot) b ∈ w .did m)
+            (agreement-of (inv g w reach) .one-batch m l s s (heldBy w l s .ballot) (heldBy w l s .ballot) e (heldBy w l s .batch) h own refl refl) h
+
+        go : (m : ℕ) → (m ≡ l) ⊎ Replied w m s (heldBy w l s .ballot) → AcceptedIn w s m (heldBy w l s)
+        go m (inl e) = subst (λ (n : ℕ). AcceptedIn w s n (heldBy w l s)) (sym e) own
+        go m (inr x) = same m (truthful-entry g w reach t m s (heldBy w l s .ballot) x)
+
+  low-of : (room : ℕ) (c : Call) → commitOf s ∈ step r room c .actions → r .sc .start ≤ s
+  low-of room c h =
+      let k = framed g w reach l pres room c in
+      let m : Marked (viewOf r .slot s) (viewOf (step r room c .replica) .slot s) =
+      all-in (ActOk (viewOf r) c (viewOf (step r room c .replica)) (step r room c .actions)) (k .said) h in
+      numbered-here (r .sc .start) (r .window) s (omega (arith, m .was)) .0
+
+  -- by an AcceptReply
+  module _ (room p ballot : ℕ) (a : May w l room (callAcceptReply p s ballot)) (h : commitOf s ∈ step r room (callAcceptReply p s ballot) .actions) where
+    abbrev o : Outcome
+    o = step r room (callAcceptReply p s ballot)
+
+    last-replied : (p ≡ l) ⊎ Replied w p s (heldBy w l s .ballot)
+    last-replied = go (reply-sent w l room _ a p s ballot refl)
+      where
+        go : Replied w p s ballot ⊎ ((o .answer ≡ 0 → ⊥) × (o .replica ≡ r)) → (p ≡ l) ⊎ Replied w p s (heldBy w l s .ballot)
+        go (inl x) =
+            inr (subst (Replied w p s)
+            (sym (ap (λ (v : Slot). v .ballot) (numbered-place (r .sc .start) (r .window) s (low-of room (callAcceptReply p s ballot) h)) ∙ commit-at r room p s ballot h)) x)
+        go (inr (n, _)) = absurd (List·Memᴰ·not-nil (subst (λ (y : List Act). commitOf s ∈ y) (refusals-silent r room (callAcceptReply p s ballot) n) h))
+
+    committed-now : Committed r (o .replica .window) (place (r .sc) s) p
+    committed-now = commit-by-reply r room p s ballot (fine-in g w reach l pres .whole) h
+
+    -- 2.2: each member in accept_acks as it commits has sent an AcceptReply for this slot at this ballot, or is self
+    pub commit-replied : AllReplied w l s (acksOf (o .replica .window) (place (r .sc) s))
+    commit-replied = all-replied p (o .replica .window) (low-of room (callAcceptReply p s ballot) h) committed-now last-replied
+
+    -- and in a truthful run what it commits is chosen
+    pub commit-chosen : Truthful reach → Chosen (g .size) (AcceptedIn w s) (heldBy w l s)
+    commit-chosen = is-chosen p (o .replica .window) (low-of room (callAcceptReply p s ballot) h) committed-now last-replied
+
+  -- by the leader's own AcceptData entry
+  module _ (room offset : ℕ) (h : commitOf s ∈ step r room (callLogged (record { entry = AcceptData; slot = s; size = offset })) .actions) where
+    abbrev own-o : Outcome
+    own-o = step r room (callLogged (record { entry = AcceptData; slot = s; size = offset }))
+
+    own-now : Committed r (own-o .replica .window) (place (r .sc) s) (r .sc .id)
+    own-now = commit-by-own r room s offset (fine-in g w reach l pres .whole) h
+
+    pub own-commit-replied : AllReplied w l s (acksOf (own-o .replica .window) (place (r .sc) s))
+    own-commit-replied = all-replied (r .sc .id) (own-o .replica .window) (low-of room (callLogged (record { entry = AcceptData; slot = s; size = offset })) h) own-now (inl (inv g w reach .local l pres .id))
+
+    pub own-commit-chosen : Truthful reach → Chosen (g .size) (AcceptedIn w s) (heldBy w l s)
+    own-commit-chosen = is-chosen (r .sc .id) (own-o .replica .window) (low-of room (callLogged (record { entry = AcceptData; slot = s; size = offset })) h) own-now (inl (inv g w reach .local l pres .id))
