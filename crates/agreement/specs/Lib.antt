@@ -13,3 +13,4 @@ pub mod Commits
 pub mod Runs
 pub mod Acks
 pub mod ChosenIf
+pub mod Truth

@@ -71,7 +71,7 @@ play w [] = w
 play w (t ∷ l) = play (happen w t) l
 
 -- ── whatever happens at present members is a run ──
-getD-in : {A : Type 0} (l : List A) (k : ℕ) (d : A) → (getD l k d ∈ l) ⊎ (getD l k d ≡ d)
+pub getD-in : {A : Type 0} (l : List A) (k : ℕ) (d : A) → (getD l k d ∈ l) ⊎ (getD l k d ≡ d)
 getD-in [] k d = inr refl
 getD-in (x ∷ l) zero d = inl (List·Memᴰ·head refl)
 getD-in {A} (x ∷ l) (suc k) d = go (getD-in l k d)
@@ -158,7 +158,7 @@ unfolding allPresent three late
 late-reached = play-reach three late (begin three) begins refl
 
 -- an element that stands after the first k
-further : {A : Type 0} (k : ℕ) (l : List A) {x : A} → x ∈ drop k l → x ∈ l
+pub further : {A : Type 0} (k : ℕ) (l : List A) {x : A} → x ∈ drop k l → x ∈ l
 further zero l m = m
 further (suc k) [] m = m
 further (suc k) (y ∷ l) m = List·Memᴰ·tail (further k l m)
