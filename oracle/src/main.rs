@@ -28,8 +28,9 @@ const USAGE: &str = "usage:
                    what the trace reaches, or what the named traces reach together
   oracle gen SEED COUNT --profile group|fuzz|reads|mix|writes
                    writes a trace of COUNT records, fixed by the seed
-  oracle example worked|keys
-                   writes a trace made by hand: 01's worked example, or the key table's edge";
+  oracle example worked|keys|refusals|late-0|late-1|late-2
+                   writes a trace made by hand: 01's worked example, the key table's edge, both
+                   sides of 01's refusals, or a member of a run that commits one slot twice";
 
 enum Command {
     Replay,

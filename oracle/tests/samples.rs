@@ -4,6 +4,7 @@ use std::fs;
 use std::path::{Path, PathBuf};
 
 use oracle::digest::Digest;
+use oracle::generate::example;
 use oracle::play::play;
 use oracle::stats::Stats;
 use oracle::tell::Text;
@@ -41,6 +42,14 @@ fn replay_and_digest_are_as_stored() {
         let name = trace.display();
         assert!(lines.bytes == stored(&trace, "replay").as_bytes(), "{name}: replay differs");
         assert!(digest.finish() == stored(&trace, "digest"), "{name}: the told text differs");
+    }
+}
+
+#[test]
+fn the_traces_made_by_hand_are_as_stored() {
+    for name in ["worked", "keys", "refusals", "late-0", "late-1", "late-2"] {
+        let stored = fs::read(folder().join(name).with_extension("trace")).expect("a trace");
+        assert!(example(name).expect("it is there") == stored, "{name}: the trace differs");
     }
 }
 

@@ -1,14 +1,16 @@
 //! Traces made by hand.
 
+use super::refusals::refusals;
 use crate::batch::Batch;
 use crate::call::{Call, Entry};
 
 /// A name, and the calls.
 type Example = (&'static str, fn() -> Vec<Call>);
 
-const EXAMPLES: [Example; 5] = [
+const EXAMPLES: [Example; 6] = [
     ("worked", worked),
     ("keys", full_key_table),
+    ("refusals", refused_and_done),
     ("late-0", late_at_0),
     ("late-1", late_at_1),
     ("late-2", late_at_2),
@@ -58,6 +60,11 @@ fn full_key_table() -> Vec<Call> {
     calls.push(reply(2, 513, (40, 0, 40), Some((1, Batch::new(7, &[900])))));
     calls.push(Call::LogDone { entry: Entry::PrepareBal, slot: 3, size: 9 });
     calls
+}
+
+/// Both sides of 01's refusals, and which comes first where several are due.
+fn refused_and_done() -> Vec<Call> {
+    refusals().into_iter().map(|(call, _)| call).collect()
 }
 
 /// What demand 3 does not promise, as the three members of one group see it: a deposed leader's
@@ -114,7 +121,7 @@ fn urgent_member(id: u8) -> Call {
     Call::New { id, group: 3, start: 0, options: 1 }
 }
 
-fn done(entry: Entry, slot: u64, size: u64) -> Call {
+pub(super) fn done(entry: Entry, slot: u64, size: u64) -> Call {
     Call::LogDone { entry, slot, size }
 }
 
@@ -127,7 +134,12 @@ fn new_member(id: u8, group: u8) -> Call {
 }
 
 /// A PrepareReply for slot, trigger and endprep.
-fn reply(peer: u8, ballot: u64, at: (u64, u64, u64), vote: Option<(u64, Batch)>) -> Call {
+pub(super) fn reply(
+    peer: u8,
+    ballot: u64,
+    at: (u64, u64, u64),
+    vote: Option<(u64, Batch)>,
+) -> Call {
     let (slot, trigger, endprep) = at;
     Call::PrepareReply { peer, slot, trigger, endprep, ballot, vote, bar: 0 }
 }

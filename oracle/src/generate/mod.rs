@@ -4,6 +4,7 @@ mod examples;
 mod group;
 mod habits;
 mod reads;
+mod refusals;
 mod rng;
 mod spoil;
 mod wild;
@@ -13,6 +14,7 @@ use std::io;
 pub use examples::example;
 use group::World;
 use habits::Habits;
+pub use refusals::refusals;
 use rng::Rng;
 
 #[derive(Debug, Clone, Copy, PartialEq, Eq)]
