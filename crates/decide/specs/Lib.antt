@@ -8,5 +8,4 @@ pub mod Ways
 pub mod NumberWays
 pub mod ReplyWays
 pub mod Laws
-pub mod Sorted
 pub mod Majority

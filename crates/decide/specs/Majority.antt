@@ -1,4 +1,5 @@
--- The least bar that a quorum of entries is not above is the one at quorum - 1 among the entries sorted.
+-- The least bar that a quorum of entries is not above is the quorum-th of the entries sorted, as the source finds it; and there are entries
+-- enough wherever the source looks.
 use mathlib.Core.Path.{_≡_, refl, sym, ap, _∙_}
 use mathlib.Core.Bool.{Bool, true, false, not, _&&_, _||_, and-true, and-false, or-true}
 use mathlib.Core.List.{List, [], _∷_, _++_}
@@ -7,8 +8,8 @@ use Prim.Native.Nat.{ℕ, zero, suc, _+_, _-_, _%_, _≤_, _<_}
 use native.Mathlib.Nat.{le-refl}
 use native.Mathlib.Omega.{arith}
 use lib.Dec.{ltb, leb, eqb}
-use lib.ListN.{length, getD, length-append}
-use borrow.Author.Tests.{le-leb, lt-leb, lt-ltb, le-ltb, eq-eqb, leb-true, ltb-true, ltb-false, eqb-true, eqb-false}
+use lib.ListN.{length, getD, length-append, List·getD-eq-default}
+use borrow.Author.Tests.{le-leb, lt-leb, lt-ltb, le-ltb, eq-eqb, leb-true, leb-false, ltb-true, ltb-false, eqb-true, eqb-false}
 use Rattle.base.specs.Pick.{pick, pick-both, pick-cases, tests, decide, clash, and-left, and-right, and-make}
 use Rattle.base.specs.Among.{All, all-append, all-map}
 use Rattle.members.specs.Sets.{one, count}
@@ -18,8 +19,7 @@ use Rattle.members.specs.Laws.{group-bounds}
 use Rattle.decide.specs.declared.Scalars.{Scalars}
 use Rattle.decide.specs.declared.PeerBars.{PeerBars}
 use Rattle.decide.specs.Scalars.{unknownBar, isMember, quorum}
-use Rattle.decide.specs.Bars.{barOf, hasEntry, notAbove, leastMajority, withBar}
-use Rattle.decide.specs.Sorted.{entries, placed, sorted, atQuorum}
+use Rattle.decide.specs.Bars.{barOf, hasEntry, entries, putSorted, sorted, quorumth, notAbove, leastMajority, withBar}
 
 -- how many of a list are not above x
 unfoldable low : ℕ → List ℕ → ℕ
@@ -27,38 +27,47 @@ low x [] = 0
 low x (y ∷ l) = one (leb y x) + low x l
 
 -- ── sorting keeps how many are low, the length, and what holds of every element ──
-low-placed : (x y : ℕ) (l : List ℕ) → low x (placed y l) ≡ one (leb y x) + low x l
-unfolding low placed
-low-placed x y [] = refl
-low-placed x y (z ∷ l) =
-    pick-both (λ (k : List ℕ). low x k ≡ one (leb y x) + (one (leb z x) + low x l)) (leb y z) refl (omega (arith, low-placed x y l))
+low-put : (x y : ℕ) (l : List ℕ) → low x (putSorted y l) ≡ one (leb y x) + low x l
+unfolding low putSorted
+low-put x y [] = refl
+low-put x y (z ∷ l) =
+    pick-both (λ (k : List ℕ). low x k ≡ one (leb y x) + (one (leb z x) + low x l)) (leb y z) refl (omega (arith, low-put x y l))
 
 low-sorted : (x : ℕ) (l : List ℕ) → low x (sorted l) ≡ low x l
 unfolding low sorted
 low-sorted x [] = refl
-low-sorted x (y ∷ l) = omega (arith, low-placed x y (sorted l), low-sorted x l)
+low-sorted x (y ∷ l) = omega (arith, low-put x y (sorted l), low-sorted x l)
 
-length-placed : (y : ℕ) (l : List ℕ) → length (placed y l) ≡ suc (length l)
-unfolding placed
-length-placed y [] = refl
-length-placed y (z ∷ l) = pick-both (λ (k : List ℕ). length k ≡ suc (suc (length l))) (leb y z) refl (ap suc (length-placed y l))
+low-most : (x : ℕ) (l : List ℕ) → low x l ≤ length l
+unfolding low
+low-most x [] = le-refl 0
+low-most x (y ∷ l) = go (leb y x) (low-most x l)
+  where
+    go : (t : Bool) → low x l ≤ length l → one t + low x l ≤ suc (length l)
+    go true h = omega arith
+    go false h = omega arith
+
+length-put : (y : ℕ) (l : List ℕ) → length (putSorted y l) ≡ suc (length l)
+unfolding putSorted
+length-put y [] = refl
+length-put y (z ∷ l) = pick-both (λ (k : List ℕ). length k ≡ suc (suc (length l))) (leb y z) refl (ap suc (length-put y l))
 
 length-sorted : (l : List ℕ) → length (sorted l) ≡ length l
 unfolding sorted
 length-sorted [] = refl
-length-sorted (y ∷ l) = length-placed y (sorted l) ∙ ap suc (length-sorted l)
+length-sorted (y ∷ l) = length-put y (sorted l) ∙ ap suc (length-sorted l)
 
-all-placed : (P : ℕ → Type 0) (y : ℕ) (l : List ℕ) → P y → All P l → All P (placed y l)
-unfolding placed
-all-placed P y [] p h = (p, tt)
-all-placed P y (z ∷ l) p h = pick-both (λ (k : List ℕ). All P k) (leb y z) (p, h) (h .0, all-placed P y l p (h .1))
+all-put : (P : ℕ → Type 0) (y : ℕ) (l : List ℕ) → P y → All P l → All P (putSorted y l)
+unfolding putSorted
+all-put P y [] p h = (p, tt)
+all-put P y (z ∷ l) p h = pick-both (λ (k : List ℕ). All P k) (leb y z) (p, h) (h .0, all-put P y l p (h .1))
 
 all-sorted : (P : ℕ → Type 0) (l : List ℕ) → All P l → All P (sorted l)
 unfolding sorted
 all-sorted P [] h = tt
-all-sorted P (y ∷ l) h = all-placed P y (sorted l) (h .0) (all-sorted P l (h .1))
+all-sorted P (y ∷ l) h = all-put P y (sorted l) (h .0) (all-sorted P l (h .1))
 
-all-at : (P : ℕ → Type 0) (l : List ℕ) (i : ℕ) → All P l → i < length l → P (getD l i 0)
+all-at : (P : ℕ → Type 0) (l : List ℕ) (i : ℕ) → All P l → i < length l → P (getD l i unknownBar)
 all-at P [] i h q = absurd (omega arith)
 all-at P (y ∷ l) zero h q = h .0
 all-at P (y ∷ l) (suc i) h q = all-at P l i (h .1) (omega arith)
@@ -68,26 +77,26 @@ abbrev Rises : List ℕ → Type 0
 Rises [] = Unit {0}
 Rises (x ∷ l) = All (λ (y : ℕ). x ≤ y) l × Rises l
 
-rises-placed : (y : ℕ) (l : List ℕ) → Rises l → Rises (placed y l)
-unfolding placed
-rises-placed y [] h = (tt, tt)
-rises-placed y (z ∷ l) h =
+rises-put : (y : ℕ) (l : List ℕ) → Rises l → Rises (putSorted y l)
+unfolding putSorted
+rises-put y [] h = (tt, tt)
+rises-put y (z ∷ l) h =
     pick-cases (λ (k : List ℕ). Rises k) (leb y z)
     (λ t. ((omega (arith, tests), all-map (λ (w : ℕ). z ≤ w) (λ (w : ℕ). y ≤ w) (λ w q. omega (arith, tests)) l (h .0)), h))
-    (λ t. (all-placed (λ (w : ℕ). z ≤ w) y l (omega (arith, tests)) (h .0), rises-placed y l (h .1)))
+    (λ t. (all-put (λ (w : ℕ). z ≤ w) y l (omega (arith, tests)) (h .0), rises-put y l (h .1)))
 
 rises-sorted : (l : List ℕ) → Rises (sorted l)
 unfolding sorted
 rises-sorted [] = tt
-rises-sorted (y ∷ l) = rises-placed y (sorted l) (rises-sorted l)
+rises-sorted (y ∷ l) = rises-put y (sorted l) (rises-sorted l)
 
 -- in a rising list, the element at i has i + 1 that are not above it
-rises-many : (l : List ℕ) (i : ℕ) → Rises l → i < length l → i < low (getD l i 0) l
+rises-many : (l : List ℕ) (i : ℕ) → Rises l → i < length l → i < low (getD l i unknownBar) l
 unfolding low
 rises-many [] i h q = absurd (omega arith)
 rises-many (x ∷ l) zero h q = rw (le-leb x x (le-refl x)) (omega arith)
 rises-many (x ∷ l) (suc i) h q =
-    rw (le-leb x (getD l i 0) (all-at (λ (y : ℕ). x ≤ y) l i (h .0) (omega arith))) (omega (arith, rises-many l i (h .1) (omega arith)))
+    rw (le-leb x (getD l i unknownBar) (all-at (λ (y : ℕ). x ≤ y) l i (h .0) (omega arith))) (omega (arith, rises-many l i (h .1) (omega arith)))
 
 -- and what is less than the element at i has at most i
 none-low : (v : ℕ) (l : List ℕ) → All (λ (y : ℕ). v < y) l → low v l ≡ 0
@@ -95,7 +104,7 @@ unfolding low
 none-low v [] h = refl
 none-low v (x ∷ l) h = rw (lt-leb x v (h .0)) (omega (arith, none-low v l (h .1)))
 
-rises-few : (l : List ℕ) (i v : ℕ) → Rises l → i < length l → v < getD l i 0 → low v l ≤ i
+rises-few : (l : List ℕ) (i v : ℕ) → Rises l → i < length l → v < getD l i unknownBar → low v l ≤ i
 unfolding low
 rises-few [] i v h q u = absurd (omega arith)
 rises-few (x ∷ l) zero v h q u =
@@ -190,8 +199,8 @@ module _ (sc : Scalars) (b : PeerBars) where
   all-entries P h (suc m) =
       pick-both (λ (l : List ℕ). All P l) (hasEntry sc b m) (all-append P (entries sc b m) (barOf b m ∷ []) (all-entries P h m) (h m, tt)) (all-entries P h m)
 
-  -- the bar of a quorum: what the code finds is what the Rust finds, wherever it finds one (its index is in range)
-  pub least-sorted : ((m : ℕ) → barOf b m ≤ unknownBar) → quorum sc ≤ length (entries sc b 9) → leastMajority sc b 9 ≡ atQuorum sc b
+  -- where the source's index is in range
+  least-sorted : ((m : ℕ) → barOf b m ≤ unknownBar) → quorum sc ≤ length (entries sc b 9) → leastMajority sc b 9 ≡ quorumth sc b
   least-sorted small enough = go (least-many 9)
     where
       rising : List ℕ
@@ -203,30 +212,45 @@ module _ (sc : Scalars) (b : PeerBars) where
       same : (x : ℕ) → notAbove sc b x ≡ low x rising
       same x = not-above-low x ∙ sym (low-sorted x (entries sc b 9))
 
-      below : leastMajority sc b 9 ≤ atQuorum sc b
+      below : leastMajority sc b 9 ≤ quorumth sc b
       below =
           all-at (Above 9) rising (quorum sc - 1) (all-sorted (Above 9) (entries sc b 9) (least-below 9)) inside
-          (omega (arith, same (atQuorum sc b), rises-many rising (quorum sc - 1) (rises-sorted (entries sc b 9)) inside))
+          (omega (arith, same (quorumth sc b), rises-many rising (quorum sc - 1) (rises-sorted (entries sc b 9)) inside))
 
-      known : atQuorum sc b ≤ unknownBar
+      known : quorumth sc b ≤ unknownBar
       known =
           all-at (λ (x : ℕ). x ≤ unknownBar) rising (quorum sc - 1)
           (all-sorted (λ (x : ℕ). x ≤ unknownBar) (entries sc b 9) (all-entries (λ (x : ℕ). x ≤ unknownBar) small 9)) inside
 
       least : quorum sc ≤ notAbove sc b (leastMajority sc b 9)
-          → (ltb (leastMajority sc b 9) (atQuorum sc b) ≡ true) ⊎ (ltb (leastMajority sc b 9) (atQuorum sc b) ≡ false) → atQuorum sc b ≤ leastMajority sc b 9
+          → (ltb (leastMajority sc b 9) (quorumth sc b) ≡ true) ⊎ (ltb (leastMajority sc b 9) (quorumth sc b) ≡ false) → quorumth sc b ≤ leastMajority sc b 9
       least q (inl t) =
           absurd
           (omega (
             arith,
             same (leastMajority sc b 9),
-            rises-few rising (quorum sc - 1) (leastMajority sc b 9) (rises-sorted (entries sc b 9)) inside (ltb-true (leastMajority sc b 9) (atQuorum sc b) t),
+            rises-few rising (quorum sc - 1) (leastMajority sc b 9) (rises-sorted (entries sc b 9)) inside (ltb-true (leastMajority sc b 9) (quorumth sc b) t),
           ))
-      least q (inr t) = ltb-false (leastMajority sc b 9) (atQuorum sc b) t
+      least q (inr t) = ltb-false (leastMajority sc b 9) (quorumth sc b) t
 
-      go : (leastMajority sc b 9 ≡ unknownBar) ⊎ (quorum sc ≤ notAbove sc b (leastMajority sc b 9)) → leastMajority sc b 9 ≡ atQuorum sc b
+      go : (leastMajority sc b 9 ≡ unknownBar) ⊎ (quorum sc ≤ notAbove sc b (leastMajority sc b 9)) → leastMajority sc b 9 ≡ quorumth sc b
       go (inl e) = omega (arith, below, known)
-      go (inr q) = omega (arith, below, least q (decide (ltb (leastMajority sc b 9) (atQuorum sc b))))
+      go (inr q) = omega (arith, below, least q (decide (ltb (leastMajority sc b 9) (quorumth sc b))))
+
+  -- what the code finds by counting is what the source finds by sorting, on every table: bars are 64-bit numbers
+  pub least-is-quorumth : ((m : ℕ) → barOf b m ≤ unknownBar) → leastMajority sc b 9 ≡ quorumth sc b
+  least-is-quorumth small = go (decide (leb (quorum sc) (length (entries sc b 9))))
+    where
+      -- fewer entries than a quorum: none has a quorum that is not above it
+      few : length (entries sc b 9) < quorum sc → (leastMajority sc b 9 ≡ unknownBar) ⊎ (quorum sc ≤ notAbove sc b (leastMajority sc b 9)) → leastMajority sc b 9 ≡ unknownBar
+      few l (inl e) = e
+      few l (inr q) = absurd (omega (arith, not-above-low (leastMajority sc b 9), low-most (leastMajority sc b 9) (entries sc b 9)))
+
+      go : (leb (quorum sc) (length (entries sc b 9)) ≡ true) ⊎ (leb (quorum sc) (length (entries sc b 9)) ≡ false) → leastMajority sc b 9 ≡ quorumth sc b
+      go (inl e) = least-sorted small (leb-true _ _ e)
+      go (inr e) =
+          let l = leb-false (quorum sc) (length (entries sc b 9)) e in
+          few l (least-many 9) ∙ sym (List·getD-eq-default (sorted (entries sc b 9)) unknownBar {n = quorum sc - 1} (omega (arith, length-sorted (entries sc b 9))))
 
   -- ── there are entries enough wherever a member's bar can fall ──
   length-entries : (n : ℕ) → length (entries sc b n) ≡ count n (hasEntry sc b)
@@ -235,7 +259,7 @@ module _ (sc : Scalars) (b : PeerBars) where
   length-entries (suc m) =
       pick-through-length (hasEntry sc b m) (entries sc b m) (barOf b m) ∙ ap (λ (k : ℕ). k + one (hasEntry sc b m)) (length-entries m)
 
-  pub entries-enough : (m : ℕ) → groupSize (sc .group) ≡ true → sc .id < sc .group → hasEntry sc b m ≡ true → quorum sc ≤ length (entries sc b 9)
+  entries-enough : (m : ℕ) → groupSize (sc .group) ≡ true → sc .id < sc .group → hasEntry sc b m ≡ true → quorum sc ≤ length (entries sc b 9)
   entries-enough m g i h = rw (length-entries 9) (go (decide (b .own)))
     where
       small : sc .group ≤ 9
@@ -263,7 +287,7 @@ module _ (sc : Scalars) (b : PeerBars) where
           other (inr t) z = eqb-false m (sc .id) t z
 
 -- who told a bar has an entry
-pub with-bar-entry : (sc : Scalars) (b : PeerBars) (m bar : ℕ) → isMember sc m ≡ true → hasEntry sc (withBar sc b m bar) m ≡ true
+with-bar-entry : (sc : Scalars) (b : PeerBars) (m bar : ℕ) → isMember sc m ≡ true → hasEntry sc (withBar sc b m bar) m ≡ true
 unfolding withBar
 with-bar-entry sc b m bar e = go (decide (eqb m (sc .id)))
   where
@@ -271,8 +295,7 @@ with-bar-entry sc b m bar e = go (decide (eqb m (sc .id)))
     go (inl t) = rw (e, t, or-true (b .own))
     go (inr t) = rw (e, t)
 
--- so in a fit group the bar that is looked at when one falls is always the Rust's
-pub fallen-sorted : (sc : Scalars) (b : PeerBars) (m bar : ℕ) → groupSize (sc .group) ≡ true → sc .id < sc .group → isMember sc m ≡ true
-    → ((k : ℕ) → barOf (withBar sc b m bar) k ≤ unknownBar) → leastMajority sc (withBar sc b m bar) 9 ≡ atQuorum sc (withBar sc b m bar)
-fallen-sorted sc b m bar g i e small =
-    least-sorted sc (withBar sc b m bar) small (entries-enough sc (withBar sc b m bar) m g i (with-bar-entry sc b m bar e))
+-- so in a fit group the table has a quorum of entries whenever the source looks, and its index is in range
+pub fallen-enough : (sc : Scalars) (b : PeerBars) (m bar : ℕ) → groupSize (sc .group) ≡ true → sc .id < sc .group → isMember sc m ≡ true
+    → quorum sc ≤ length (entries sc (withBar sc b m bar) 9)
+fallen-enough sc b m bar g i e = entries-enough sc (withBar sc b m bar) m g i (with-bar-entry sc b m bar e)
