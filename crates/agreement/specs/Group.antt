@@ -27,7 +27,7 @@ use Rattle.replica.specs.Record.{Outcome, newReplica, fresh, logEnd}
 use Rattle.replica.specs.Messages.{clean}
 use Rattle.replica.specs.Step.{Call, callPrepare, callPrepareReply, callAccept, callAcceptReply, callCommitNotice, callTimeout, callLogged, callOffer, callExecuted, callOpenRead, callReadReply, step, received}
 use Rattle.agreement.specs.BySlot.{by-place}
-use Rattle.agreement.specs.Theorem.{Group, Mark, World, slotOf, rises, markAt, marksOf, upd, put, begin, May, timer, offer, logged, executed, opened, replied, message, refused, Reach, begins, turn, ballots, NeverFalls, acceptEntry, commitEntry, Agreement, Theorem}
+use Rattle.agreement.specs.Theorem.{Group, Mark, World, slotOf, rises, markAt, marksOf, upd, put, begin, May, timer, offer, logged, execution, opening, replied, message, refused, Reach, begins, turn, ballots, NeverFalls, acceptEntry, commitEntry, Agreement, Theorem}
 use Rattle.agreement.specs.Frame.{View, view, Owns, Why, led, told, Wrote, Marked, ActOk, Frame}
 use Rattle.agreement.specs.Good.{GoodSlot, GoodReplica}
 use Rattle.agreement.specs.Calls.{step-ok}
@@ -111,8 +111,8 @@ accept-sent w m room _ (refused c n _) p s b e q = inr n
 accept-sent w m room _ (timer source) p s b e q = absurd (clash (ap isAccept q) refl)
 accept-sent w m room _ (offer x) p s b e q = absurd (clash (ap isAccept q) refl)
 accept-sent w m room _ (logged d) p s b e q = absurd (clash (ap isAccept q) refl)
-accept-sent w m room _ (executed slot) p s b e q = absurd (clash (ap isAccept q) refl)
-accept-sent w m room _ (opened id count keys) p s b e q = absurd (clash (ap isAccept q) refl)
+accept-sent w m room _ (execution slot) p s b e q = absurd (clash (ap isAccept q) refl)
+accept-sent w m room _ (opening id count keys) p s b e q = absurd (clash (ap isAccept q) refl)
 accept-sent w m room _ (replied peer id f reply) p s b e q = absurd (clash (ap isAccept q) refl)
 
 -- ── the only place that looks into `put` ──

@@ -60,25 +60,25 @@ turned-calm {v} {v′} {sc} {acts} {s} x y k (still l) = record { good = k; step
 turned-calm {v} {v′} {sc} {acts} {s} x y k (below a b) = record { good = k; step = low a b; rise = λ _ z. absurd (omega arith) }
 
 -- ── the parts ──
-module _ (r : Replica) (j i : ℕ) (g : GoodReplica r) (h : leads (r .sc) ≡ true) (b : i < 64) where
+module _ (r : Replica) (i j : ℕ) (g : GoodReplica r) (h : leads (r .sc) ≡ true) (b : i < 64) where
   -- the empty batch of a null slot is clean
   new-good : GoodSlot (r .sc) (appendedAs r j)
   unfolding makeBatch
   new-good = record { under = omega (arith, g .sent h); busy = λ _ _ _. g .sent h; tidy = refl; tidyVote = refl }
 
-  appended-primed : Primed (r .sc) (r .window) (appended r j i)
+  appended-primed : Primed (r .sc) (r .window) (appended r i j)
   appended-primed =
       record {
         good = record {
           small = g .small;
           sent = g .sent;
           own = g .own;
-          wide = appended-long r j i ∙ g .wide;
-          short = appended-most r j i 64 (g .short) b;
-          each = λ k. appended-cases (GoodSlot (r .sc)) r j i k (omega (arith, g .wide)) (λ _. new-good) (g .each k);
+          wide = appended-long r i j ∙ g .wide;
+          short = appended-most r i j 64 (g .short) b;
+          each = λ k. appended-cases (GoodSlot (r .sc)) r i j k (omega (arith, g .wide)) (λ _. new-good) (g .each k);
         };
         calm = λ k.
-            appended-cases (Calm (atPlace (r .window) k)) r j i k (omega (arith, g .wide))
+            appended-cases (Calm (atPlace (r .window) k)) r i j k (omega (arith, g .wide))
             (λ a. below (subst (λ (x : Slot). x .status < 2) (sym (at-past (r .window) k a)) (omega arith)) (omega arith))
             (still (like-self (atPlace (r .window) k)));
       }
@@ -215,7 +215,7 @@ good-all {sc} {sc′} {w} q g =
 heard-primed : (r : Replica) (peer : ℕ) (m : Reply) → Clean (m .vote .batch) → Heard r peer m → Primed (r .sc) (r .window) (replyWindow r m) → Primed (r .sc) (r .window) (heardWindow r m)
 heard-primed r peer m t h p =
     let i : ℕ = place (r .sc) (m .slot) in
-    let l = appended-has r (place (r .sc) (m .trigger)) i in
+    let l = appended-has r i (place (r .sc) (m .trigger)) in
     let k : GoodSlot (r .sc) (replySlot r m) = subst (GoodSlot (r .sc)) (at-here (replyWindow r m) i l) (p .good .each i) in
     let z = h .status in
     put-primed p i (heardSlot (replySlot r m) m) l
@@ -227,7 +227,7 @@ counted-primed : (r : Replica) (peer : ℕ) (m : Reply) → Answers r m → Prim
 counted-primed r peer m f p =
     let i : ℕ = place (r .sc) (m .slot) in
     let j : ℕ = place (r .sc) (m .trigger) in
-    let l : j < heardWindow r m .len = omega (arith, f .low, f .logged, appended-low r j i) in
+    let l : j < heardWindow r m .len = omega (arith, f .low, f .logged, appended-low r i j) in
     let k : Like (triggerSlot r m) (countedSlot peer (triggerSlot r m)) = record { status = refl; ballot = refl; batch = refl; vote = refl } in
     put-primed p j (countedSlot peer (triggerSlot r m)) l (good-like (subst (GoodSlot (r .sc)) (at-here (heardWindow r m) j l) (p .good .each j)) k) (still k)
 
@@ -251,7 +251,7 @@ replyOn-ok r c g peer m t =
     j = place (r .sc) (m .trigger)
 
     wide : Answers r m → Primed (r .sc) (r .window) (replyWindow r m)
-    wide f = appended-primed r j i g (f .leading) (reply-place r m f)
+    wide f = appended-primed r i j g (f .leading) (reply-place r m f)
 
     said : Answers r m → (v v′ : View) (all : List Act) → v′ .seen ≡ r .sc .«bal_max_seen» → All (ActOk v c v′ all) (appendActs r i)
     said f v v′ all s =

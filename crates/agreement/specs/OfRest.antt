@@ -21,7 +21,7 @@ use Rattle.slots.specs.declared.Vote.{Vote}
 use Rattle.slots.specs.declared.Slot.{Slot}
 use Rattle.slots.specs.Slots.{committed, loggedSlot, passedSlot, executedSlot, offeredSlot, nullSlot}
 use Rattle.decide.specs.declared.Scalars.{Scalars}
-use Rattle.decide.specs.Scalars.{leads, urgent, withOffset}
+use Rattle.decide.specs.Scalars.{leads, urgent, withLogSize}
 use Rattle.decide.specs.Decide.{proposal, sentVote, decideOffer}
 use Rattle.decide.specs.PrepareReply.{ownReply}
 use Rattle.window.specs.declared.Window.{Window}
@@ -34,11 +34,11 @@ use Rattle.replica.specs.declared.Done.{Done}
 use Rattle.replica.specs.Record.{Outcome, place, number, logEnd}
 use Rattle.replica.specs.Messages.{clean, replyOn}
 use Rattle.replica.specs.Durability.{movedAccept, passStop, loggedOn, loggedStep}
-use Rattle.replica.specs.Quorumread.{openReadStep, readAct, readReplyStep}
+use Rattle.replica.specs.Quorumread.{openReadStep, answerAct, readReplyStep}
 use Rattle.replica.specs.Added.{offerStep, movedExec, executedStep}
 use Rattle.replica.specs.Step.{Call}
 use Rattle.laws.specs.WaysDurability.{logged, loggedAt, Logs, Completes, completes-silent, completes-more, completes-commit, completes-report, moved-ways, passFrom, passed, loggedStep-ways}
-use Rattle.laws.specs.WaysAdded.{offerWindow, offerStep-ways, executedWindow, executed, executedStep-ways, openReadStep-ways, readPlace, readAt, mergedRead, closed, readReplyStep-ways}
+use Rattle.laws.specs.WaysAdded.{offerWindow, offerStep-ways, executedWindow, afterExecuted, executedStep-ways, openReadStep-ways, readPlace, readAt, mergedRead, closed, readReplyStep-ways}
 use Rattle.agreement.specs.Theorem.{acceptEntry}
 use Rattle.agreement.specs.Frame.{Cell, cell, View, view, Owns, Clean, Holds, led, ActOk, kept, wrote, Frame}
 use Rattle.agreement.specs.Good.{GoodSlot, Good, StepOk, Ok, GoodReplica, Same, same-self, heads-same, good-same, Turned, Like, like-self, good-like, turned-self, Each, assemble, at-number, view-like, Grew, grew, good-grew, grew-ok, kept-ok}
@@ -158,7 +158,7 @@ module _ (r : Replica) (g : GoodReplica r) (d : Done) (f : Logs r d) where
 
   logged-view : view (logged r d .sc) (logged r d .window) ≡ view (r .sc) (r .window)
   unfolding loggedOn
-  logged-view = view-like (r .sc) (withOffset (r .sc) (d .size)) (r .window) (putSlot (r .window) i offset)
+  logged-view = view-like (r .sc) (withLogSize (r .sc) (d .size)) (r .window) (putSlot (r .window) i offset)
       (record { id = refl; start = refl; leader = refl; sent = refl; seen = refl }) logged-like
 
   logged-at : d .slot ≡ logged r d .sc .start + i
@@ -267,9 +267,9 @@ unfolding movedExec
 executedStep-ok r c g room slot =
     executedStep-ways (Ok r c) r room slot (λ n _. kept-ok r c g n)
     (λ f.
-    let q : Same (r .sc) (executed r slot .replica .sc) = record { id = refl; start = refl; leader = refl; sent = refl; seen = refl } in
-    assemble (r .sc) (r .window) c 0 (executed r slot .replica .sc) (executedWindow r slot) [] g (heads-same g q) (put-long (r .window) (place (r .sc) slot) _ ∙ g .wide) (g .short)
-    (executed-each (r .sc) (r .window) c (executed r slot .replica .sc) (place (r .sc) slot) g q (omega (arith, f .low, f .high))) tt (λ _. refl))
+    let q : Same (r .sc) (afterExecuted r slot .replica .sc) = record { id = refl; start = refl; leader = refl; sent = refl; seen = refl } in
+    assemble (r .sc) (r .window) c 0 (afterExecuted r slot .replica .sc) (executedWindow r slot) [] g (heads-same g q) (put-long (r .window) (place (r .sc) slot) _ ∙ g .wide) (g .short)
+    (executed-each (r .sc) (r .window) c (afterExecuted r slot .replica .sc) (place (r .sc) slot) g q (omega (arith, f .low, f .high))) tt (λ _. refl))
 
 -- ── reads ──
 pub openReadStep-ok : (r : Replica) (c : Call) → GoodReplica r → (room id count : ℕ) (keys : List ℕ) → Ok r c (openReadStep r room id count keys)
@@ -284,5 +284,5 @@ readReplyStep-ok r c g room peer id fromLeader reply =
   where
     answered : (d : Read) (n : ℕ) → Ok r c (closed r (readPlace r id) d n)
     answered d n =
-        idle-ok (r .sc) (r .window) c 0 (gather (λ k. readAct (r .sc .leader) d k ∷ []) 0 n) g
-        (λ v c v′ all. all-gather (λ k. readAct (r .sc .leader) d k ∷ []) (ActOk v c v′ all) 0 n (λ _ _ _. (tt, tt))) (λ z. absurd (z refl))
+        idle-ok (r .sc) (r .window) c 0 (gather (λ k. answerAct (r .sc .leader) d k ∷ []) 0 n) g
+        (λ v c v′ all. all-gather (λ k. answerAct (r .sc .leader) d k ∷ []) (ActOk v c v′ all) 0 n (λ _ _ _. (tt, tt))) (λ z. absurd (z refl))

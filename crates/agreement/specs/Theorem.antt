@@ -47,7 +47,7 @@ pub record World : Type 0 where
   pub did : ℕ → List Act
   pub marks : List Mark
 
--- slot s of a replica
+-- slot s of a replica, by its number, where `slotAt` and `atPlace` are by place
 abbrev pub slotOf : Replica → ℕ → Slot
 slotOf r s = numbered (r .sc .start) (r .window) s
 
@@ -84,8 +84,8 @@ pub data May (w : World) (m room : ℕ) : Call → Type 0 where
   timer : (source : ℕ) → May w m room (callTimeout source)
   offer : (b : Batch) → May w m room (callOffer b)
   logged : (d : Done) → May w m room (callLogged d)
-  executed : (slot : ℕ) → May w m room (callExecuted slot)
-  opened : (id count : ℕ) (keys : List ℕ) → May w m room (callOpenRead id count keys)
+  execution : (slot : ℕ) → May w m room (callExecuted slot)
+  opening : (id count : ℕ) (keys : List ℕ) → May w m room (callOpenRead id count keys)
   replied : (peer id : ℕ) (fromLeader : Bool) (reply : Tally) → May w m room (callReadReply peer id fromLeader reply)
   message : (from : ℕ) (a : Act) (c : Call) → a ∈ w .did from → c ∈ received from a → May w m room c
   refused : (c : Call) → (step (w .replica m) room c .answer ≡ 0 → ⊥) → (step (w .replica m) room c .answer ≡ 12 → ⊥) → May w m room c

@@ -18,7 +18,7 @@ use Rattle.batch.specs.declared.Batch.{Batch}
 use Rattle.batch.specs.declared.KeyTable.{KeyTable}
 use Rattle.batch.specs.Batches.{clip, keyCount}
 use Rattle.batch.specs.Laws.{clip-is}
-use Rattle.batch.specs.Keys.{emptyTable, otherAt, placeIn, holds, placeOf, knows, slotOf, raised, added, noteKey, noteKeys, count1, sameAt, repeats, isNew, newKeys, overfullIn}
+use Rattle.batch.specs.Keys.{emptyTable, otherAt, placeIn, holds, placeOf, knows, slotFor, raised, added, noteKey, noteKeys, count1, sameAt, repeats, isNew, newKeys, overfullIn}
 
 pub other-here : (used : List ℕ) (key i : ℕ) → getD used i 0 ≡ key → otherAt used key i ≡ false
 other-here used key i e = rw (eq-eqb (getD used i 0) key e)
@@ -167,9 +167,9 @@ module _ (slot : ℕ) (t : KeyTable) (s : Shaped t) where
           (λ (k : knows t other ≡ false). added-lacks key h other (λ p. n (sym p)) k ∙ sym k) (decide (knows t other)))
 
   -- a key that is noted has the larger of its slot and the new one, and every other key has its own
-  pub note-slot : (key : ℕ) → Room t key → slotOf (noteKey slot t key) key ≡ larger (slotOf t key) slot
+  pub note-slot : (key : ℕ) → Room t key → slotFor (noteKey slot t key) key ≡ larger (slotFor t key) slot
   note-slot key r =
-      note-cases slot t key (λ (x : KeyTable). slotOf x key ≡ larger (slotOf t key) slot)
+      note-cases slot t key (λ (x : KeyTable). slotFor x key ≡ larger (slotFor t key) slot)
       (λ e. rw (e, getD-set-same (t .slots) (placeOf t key) (larger (getD (t .slots) (placeOf t key) 0) slot) 0 (omega (arith, known-below key e, s .few, s .slots))))
       (λ e h. ⊎-elim (λ (k : knows t key ≡ true). absurd (clash k e)) (λ (u : t .count < 256). absurd (omega arith)) r)
       (λ e h. rw (added-knows key h e, e, added-place key h e, getD-set-same (t .slots) (t .count) slot 0 (omega (arith, s .slots))) (zero-larger slot))
@@ -177,11 +177,11 @@ module _ (slot : ℕ) (t : KeyTable) (s : Shaped t) where
       zero-larger : (n : ℕ) → n ≡ larger 0 n
       zero-larger n = pick-cases (λ (x : ℕ). n ≡ x) (ltb 0 n) (λ e. refl) (λ e. omega (arith, tests))
 
-  pub note-other : (key other : ℕ) → (key ≡ other → ⊥) → slotOf (noteKey slot t key) other ≡ slotOf t other
+  pub note-other : (key other : ℕ) → (key ≡ other → ⊥) → slotFor (noteKey slot t key) other ≡ slotFor t other
   note-other key other n =
-      note-cases slot t key (λ (x : KeyTable). slotOf x other ≡ slotOf t other) kept (λ e h. refl) fresh
+      note-cases slot t key (λ (x : KeyTable). slotFor x other ≡ slotFor t other) kept (λ e h. refl) fresh
     where
-      kept : knows t key ≡ true → slotOf (raised slot t key) other ≡ slotOf t other
+      kept : knows t key ≡ true → slotFor (raised slot t key) other ≡ slotFor t other
       kept e =
           ⊎-elim
           (λ (k : knows t other ≡ true). rw k
@@ -190,7 +190,7 @@ module _ (slot : ℕ) (t : KeyTable) (s : Shaped t) where
           (λ (k : knows t other ≡ false). rw k)
           (decide (knows t other))
 
-      fresh : knows t key ≡ false → t .count < 256 → slotOf (added slot t key) other ≡ slotOf t other
+      fresh : knows t key ≡ false → t .count < 256 → slotFor (added slot t key) other ≡ slotFor t other
       fresh e h =
           ⊎-elim
           (λ (k : knows t other ≡ true). rw (added-keeps key h other k, k, added-known key h other k)
@@ -199,19 +199,19 @@ module _ (slot : ℕ) (t : KeyTable) (s : Shaped t) where
           (decide (knows t other))
 
   -- so no key's slot falls, and the key that is noted has at least the new one
-  pub note-grows : (key other : ℕ) → slotOf t other ≤ slotOf (noteKey slot t key) other
-  note-grows key other = ⊎-elim (λ (p : key ≡ other). rw (← p) self) (λ n. rw (note-other key other n) (le-refl (slotOf t other))) (same? key other)
+  pub note-grows : (key other : ℕ) → slotFor t other ≤ slotFor (noteKey slot t key) other
+  note-grows key other = ⊎-elim (λ (p : key ≡ other). rw (← p) self) (λ n. rw (note-other key other n) (le-refl (slotFor t other))) (same? key other)
     where
-      self : slotOf t key ≤ slotOf (noteKey slot t key) key
+      self : slotFor t key ≤ slotFor (noteKey slot t key) key
       self =
-          ⊎-elim (λ (k : knows t key ≡ true). rw (note-slot key (inl k)) (larger-left (slotOf t key) slot))
+          ⊎-elim (λ (k : knows t key ≡ true). rw (note-slot key (inl k)) (larger-left (slotFor t key) slot))
           (λ (k : knows t key ≡ false).
-          ⊎-elim (λ u. rw (note-full slot t key k (leb-true 256 (t .count) u)) (le-refl (slotOf t key)))
-          (λ u. rw (note-slot key (inr (leb-false 256 (t .count) u))) (larger-left (slotOf t key) slot)) (decide (leb 256 (t .count))))
+          ⊎-elim (λ u. rw (note-full slot t key k (leb-true 256 (t .count) u)) (le-refl (slotFor t key)))
+          (λ u. rw (note-slot key (inr (leb-false 256 (t .count) u))) (larger-left (slotFor t key) slot)) (decide (leb 256 (t .count))))
           (decide (knows t key))
 
-  pub note-reaches : (key : ℕ) → Room t key → slot ≤ slotOf (noteKey slot t key) key
-  note-reaches key r = rw (note-slot key r) (larger-right (slotOf t key) slot)
+  pub note-reaches : (key : ℕ) → Room t key → slot ≤ slotFor (noteKey slot t key) key
+  note-reaches key r = rw (note-slot key r) (larger-right (slotFor t key) slot)
 
   -- the count grows by one for a new key
   pub note-counts : (key : ℕ) → Room t key → noteKey slot t key .count ≡ t .count + count1 (not (knows t key))

@@ -24,6 +24,7 @@ placeIn used count key = scan (otherAt used key) 0 (clip 256 count)
 abbrev pub holds : List ℕ → ℕ → ℕ → Bool
 holds used count key = ltb (placeIn used count key) (clip 256 count)
 
+-- the two of a table; above they are of any list and count, as the functions on lent arrays take them
 abbrev pub placeOf : KeyTable → ℕ → ℕ
 placeOf t key = placeIn (t .keys) (t .count) key
 
@@ -31,8 +32,8 @@ abbrev pub knows : KeyTable → ℕ → Bool
 knows t key = holds (t .keys) (t .count) key
 
 -- the highest slot known for a key, 0 where none is
-abbrev pub slotOf : KeyTable → ℕ → ℕ
-slotOf t key = pick (knows t key) (getD (t .slots) (placeOf t key) 0) 0
+abbrev pub slotFor : KeyTable → ℕ → ℕ
+slotFor t key = pick (knows t key) (getD (t .slots) (placeOf t key) 0) 0
 
 -- a known key keeps the larger slot
 abbrev pub raised : ℕ → KeyTable → ℕ → KeyTable
@@ -56,6 +57,7 @@ noteKeys slot keys t (suc i) = noteKey slot (noteKeys slot keys t i) (getD keys 
 abbrev pub refresh : ℕ → Batch → KeyTable → KeyTable
 refresh slot b t = noteKeys slot (b .keys) t (keyCount b)
 
+-- as `one` of members, which this crate does not depend on
 abbrev pub count1 : Bool → ℕ
 count1 true = 1
 count1 false = 0
@@ -80,6 +82,7 @@ newKeys used count keys (suc i) = newKeys used count keys i + count1 (isNew used
 unfoldable pub overfullIn : List ℕ → ℕ → Batch → Bool
 overfullIn used count b = ltb 256 (count + newKeys used count (b .keys) (keyCount b))
 
+-- the same of a table
 abbrev pub overfull : KeyTable → Batch → Bool
 overfull t b = overfullIn (t .keys) (t .count) b
 

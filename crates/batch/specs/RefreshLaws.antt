@@ -14,7 +14,7 @@ use Rattle.base.specs.Find.{any, any-found}
 use Rattle.batch.specs.declared.Batch.{Batch}
 use Rattle.batch.specs.declared.KeyTable.{KeyTable}
 use Rattle.batch.specs.Batches.{keyCount}
-use Rattle.batch.specs.Keys.{emptyTable, knows, slotOf, added, noteKey, noteKeys, refresh, count1, isNew, newKeys, overfullIn, overfull}
+use Rattle.batch.specs.Keys.{emptyTable, knows, slotFor, added, noteKey, noteKeys, refresh, count1, isNew, newKeys, overfullIn, overfull}
 use Rattle.batch.specs.KeyLaws.{Shaped, Room, holds-not, note-cases, note-shaped, note-count, note-knows, note-slot, note-other, note-grows, note-counts, in-use, at-new, at-old}
 
 -- key j of a list is the key
@@ -51,9 +51,9 @@ module _ (slot : ℕ) (keys : List ℕ) (t : KeyTable) (s : Shaped t) where
   notes-count zero = le-refl (t .count)
   notes-count (suc i) = omega (arith, notes-count i, note-count slot (noteKeys slot keys t i) (getD keys i 0))
 
-  pub notes-grows : (n key : ℕ) → slotOf t key ≤ slotOf (noteKeys slot keys t n) key
+  pub notes-grows : (n key : ℕ) → slotFor t key ≤ slotFor (noteKeys slot keys t n) key
   unfolding noteKeys
-  notes-grows zero key = le-refl (slotOf t key)
+  notes-grows zero key = le-refl (slotFor t key)
   notes-grows (suc i) key = omega (arith, notes-grows i key, note-grows slot (noteKeys slot keys t i) (notes-shaped i) (getD keys i 0) key)
 
   -- where there is room for what is new: the count, which keys are known, and every key's slot
@@ -93,7 +93,7 @@ module _ (slot : ℕ) (keys : List ℕ) (t : KeyTable) (s : Shaped t) where
 
   -- each key of the list has the larger of its slot and the new one, and every other key has its own
   pub notes-slot : (n : ℕ) → t .count + newKeys (t .keys) (t .count) keys n ≤ 256 → (key : ℕ)
-      → slotOf (noteKeys slot keys t n) key ≡ pick (any (isAt keys key) 0 n) (larger (slotOf t key) slot) (slotOf t key)
+      → slotFor (noteKeys slot keys t n) key ≡ pick (any (isAt keys key) 0 n) (larger (slotFor t key) slot) (slotFor t key)
   unfolding noteKeys newKeys
   notes-slot zero h key = refl
   notes-slot (suc i) h key =
@@ -105,7 +105,7 @@ module _ (slot : ℕ) (keys : List ℕ) (t : KeyTable) (s : Shaped t) where
       let p : getD keys i 0 ≡ key = eqb-true (getD keys i 0) key e in
       rw (e, ← p)
       (note-slot slot (noteKeys slot keys t i) (notes-shaped i) (getD keys i 0) (has-room i h (noted i l))
-      ∙ rw (p, before) (again (any (isAt keys key) 0 i) (slotOf t key))))
+      ∙ rw (p, before) (again (any (isAt keys key) 0 i) (slotFor t key))))
       (λ (e : eqb (getD keys i 0) key ≡ false).
       rw e (note-other slot (noteKeys slot keys t i) (notes-shaped i) (getD keys i 0) key (eqb-false (getD keys i 0) key e) ∙ before))
       (decide (eqb (getD keys i 0) key)))
@@ -155,7 +155,7 @@ module _ (slot : ℕ) (b : Batch) (t : KeyTable) (s : Shaped t) where
   refresh-distinct d = notes-distinct slot (b .keys) t s d (keyCount b)
 
   -- no slot falls, nor does the count
-  pub refresh-grows : (key : ℕ) → slotOf t key ≤ slotOf (refresh slot b t) key
+  pub refresh-grows : (key : ℕ) → slotFor t key ≤ slotFor (refresh slot b t) key
   refresh-grows key = notes-grows slot (b .keys) t s (keyCount b) key
 
   pub refresh-count : t .count ≤ refresh slot b t .count
@@ -173,11 +173,11 @@ module _ (slot : ℕ) (b : Batch) (t : KeyTable) (s : Shaped t) where
     pub refresh-knows : (key : ℕ) → knows (refresh slot b t) key ≡ (knows t key || any (isAt (b .keys) key) 0 (keyCount b))
     refresh-knows key = noted slot (b .keys) t s (keyCount b) fits-new .known key
 
-    pub refresh-slot : (key : ℕ) → slotOf (refresh slot b t) key ≡ pick (any (isAt (b .keys) key) 0 (keyCount b)) (larger (slotOf t key) slot) (slotOf t key)
+    pub refresh-slot : (key : ℕ) → slotFor (refresh slot b t) key ≡ pick (any (isAt (b .keys) key) 0 (keyCount b)) (larger (slotFor t key) slot) (slotFor t key)
     refresh-slot key = notes-slot slot (b .keys) t s (keyCount b) fits-new key
 
-    pub refresh-reaches : (i : ℕ) → i < keyCount b → slot ≤ slotOf (refresh slot b t) (getD (b .keys) i 0)
+    pub refresh-reaches : (i : ℕ) → i < keyCount b → slot ≤ slotFor (refresh slot b t) (getD (b .keys) i 0)
     refresh-reaches i u =
         let key = getD (b .keys) i 0 in
         let e = any-found (isAt (b .keys) key) 0 i (keyCount b) (omega arith) u (eq-eqb key key refl) in
-        rw (refresh-slot key, e) (larger-right (slotOf t key) slot)
+        rw (refresh-slot key, e) (larger-right (slotFor t key) slot)

@@ -55,18 +55,18 @@ ignoresTimeout sc source = (not (eqb (sc .leader) nobody) && not (eqb (sc .leade
 abbrev pub notifies : Scalars → ℕ → ℕ → Bool
 notifies sc bar end = eqb bar end && (leads sc && (ltb 0 (sc .«bal_prepared») && (eqb (sc .«bal_prepared») (sc .«bal_max_seen») && urgent sc)))
 
--- the two halves of what changes: who leads and the three ballots; the three bars, wal_offset and peer_accept_max
-abbrev pub withBallots : Scalars → ℕ → ℕ → ℕ → ℕ → Scalars
-withBallots sc leader sent prepared seen =
+-- the two halves of what changes, each number by its name: who leads and the three ballots; the three bars, the log's size and peer_accept_max
+abbrev pub withBallots : Scalars → record { leader : ℕ; «bal_prep_sent» : ℕ; «bal_prepared» : ℕ; «bal_max_seen» : ℕ } → Scalars
+withBallots sc new =
     record {
       id = sc .id;
       group = sc .group;
       start = sc .start;
       options = sc .options;
-      leader = leader;
-      «bal_prep_sent» = sent;
-      «bal_prepared» = prepared;
-      «bal_max_seen» = seen;
+      leader = new .leader;
+      «bal_prep_sent» = new .«bal_prep_sent»;
+      «bal_prepared» = new .«bal_prepared»;
+      «bal_max_seen» = new .«bal_max_seen»;
       «accept_bar» = sc .«accept_bar»;
       «commit_bar» = sc .«commit_bar»;
       «exec_bar» = sc .«exec_bar»;
@@ -74,8 +74,8 @@ withBallots sc leader sent prepared seen =
       «peer_accept_max» = sc .«peer_accept_max»;
     }
 
-abbrev pub withNumbers : Scalars → ℕ → ℕ → ℕ → ℕ → ℕ → Scalars
-withNumbers sc accept commit exec offset peerMax =
+abbrev pub withNumbers : Scalars → record { «accept_bar» : ℕ; «commit_bar» : ℕ; «exec_bar» : ℕ; «wal_offset» : ℕ; «peer_accept_max» : ℕ } → Scalars
+withNumbers sc new =
     record {
       id = sc .id;
       group = sc .group;
@@ -85,33 +85,53 @@ withNumbers sc accept commit exec offset peerMax =
       «bal_prep_sent» = sc .«bal_prep_sent»;
       «bal_prepared» = sc .«bal_prepared»;
       «bal_max_seen» = sc .«bal_max_seen»;
-      «accept_bar» = accept;
-      «commit_bar» = commit;
-      «exec_bar» = exec;
-      «wal_offset» = offset;
-      «peer_accept_max» = peerMax;
+      «accept_bar» = new .«accept_bar»;
+      «commit_bar» = new .«commit_bar»;
+      «exec_bar» = new .«exec_bar»;
+      «wal_offset» = new .«wal_offset»;
+      «peer_accept_max» = new .«peer_accept_max»;
     }
 
--- check_leader "acts only on a larger ballot": the believed leader and the largest ballot seen
+-- check_leader: the believed leader and the largest ballot seen, whatever it was; `followed` "acts only on a larger ballot"
+abbrev pub following : Scalars → ℕ → ℕ → Scalars
+following sc peer ballot =
+    withBallots sc (record { leader = peer; «bal_prep_sent» = sc .«bal_prep_sent»; «bal_prepared» = sc .«bal_prepared»; «bal_max_seen» = ballot })
+
 abbrev pub followed : Scalars → ℕ → ℕ → Scalars
-followed sc peer ballot = pick (ltb (sc .«bal_max_seen») ballot) (withBallots sc peer (sc .«bal_prep_sent») (sc .«bal_prepared») ballot) sc
+followed sc peer ballot = pick (ltb (sc .«bal_max_seen») ballot) (following sc peer ballot) sc
 
 -- "a leader first reports that it is none"
 abbrev pub stepsDown : Scalars → ℕ → Bool
 stepsDown sc ballot = ltb (sc .«bal_max_seen») ballot && leads sc
 
 abbrev pub withPrepared : Scalars → ℕ → Scalars
-withPrepared sc ballot = withBallots sc (sc .leader) (sc .«bal_prep_sent») ballot (sc .«bal_max_seen»)
+withPrepared sc ballot =
+    withBallots sc (record { leader = sc .leader; «bal_prep_sent» = sc .«bal_prep_sent»; «bal_prepared» = ballot; «bal_max_seen» = sc .«bal_max_seen» })
 
 abbrev pub withBars : Scalars → ℕ → ℕ → ℕ → Scalars
-withBars sc accept commit exec = withNumbers sc accept commit exec (sc .«wal_offset») (sc .«peer_accept_max»)
+withBars sc accept commit exec =
+    withNumbers sc (record { «accept_bar» = accept; «commit_bar» = commit; «exec_bar» = exec; «wal_offset» = sc .«wal_offset»; «peer_accept_max» = sc .«peer_accept_max» })
 
-abbrev pub withOffset : Scalars → ℕ → Scalars
-withOffset sc offset = withNumbers sc (sc .«accept_bar») (sc .«commit_bar») (sc .«exec_bar») offset (sc .«peer_accept_max»)
+-- one bar moves
+abbrev pub withAcceptBar : Scalars → ℕ → Scalars
+withAcceptBar sc bar = withBars sc bar (sc .«commit_bar») (sc .«exec_bar»)
+
+abbrev pub withCommitBar : Scalars → ℕ → Scalars
+withCommitBar sc bar = withBars sc (sc .«accept_bar») bar (sc .«exec_bar»)
+
+abbrev pub withExecBar : Scalars → ℕ → Scalars
+withExecBar sc bar = withBars sc (sc .«accept_bar») (sc .«commit_bar») bar
+
+-- the size of the log as the host last told it; a slot's own wal_offset is `withOffset` of Slots
+abbrev pub withLogSize : Scalars → ℕ → Scalars
+withLogSize sc size =
+    withNumbers sc (record { «accept_bar» = sc .«accept_bar»; «commit_bar» = sc .«commit_bar»; «exec_bar» = sc .«exec_bar»; «wal_offset» = size; «peer_accept_max» = sc .«peer_accept_max» })
 
 abbrev pub withPeerMax : Scalars → ℕ → Scalars
-withPeerMax sc bar = withNumbers sc (sc .«accept_bar») (sc .«commit_bar») (sc .«exec_bar») (sc .«wal_offset») bar
+withPeerMax sc bar =
+    withNumbers sc (record { «accept_bar» = sc .«accept_bar»; «commit_bar» = sc .«commit_bar»; «exec_bar» = sc .«exec_bar»; «wal_offset» = sc .«wal_offset»; «peer_accept_max» = bar })
 
 -- become_a_leader: self leads at a ballot of its own that is not prepared yet, and knows no member's accept bar
 abbrev pub steppedUp : Scalars → ℕ → Scalars
-steppedUp sc ballot = withPeerMax (withBallots sc (sc .id) ballot 0 ballot) unknownBar
+steppedUp sc ballot =
+    withPeerMax (withBallots sc (record { leader = sc .id; «bal_prep_sent» = ballot; «bal_prepared» = 0; «bal_max_seen» = ballot })) unknownBar

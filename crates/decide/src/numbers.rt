@@ -3,7 +3,7 @@ ghost use mathlib.Core.Path.{_≡_};
 ghost use mathlib.Core.Bool.{_||_};
 ghost use lib.Dec.{ltb, eqb};
 ghost use Rattle.decide.specs.Scalars.{leads, isMember, isPeer, quorum, urgent, disallowed, mayBe, fitScalars, ignoresTimeout, notifies};
-ghost use Rattle.decide.specs.Scalars.{followed, stepsDown, withPrepared, withBars, withOffset, withPeerMax, steppedUp};
+ghost use Rattle.decide.specs.Scalars.{followed, stepsDown, withPrepared, withBars, withLogSize, withPeerMax, steppedUp};
 use crate::Scalars;
 
 // No leader is known.
@@ -185,7 +185,7 @@ impl Scalars {
     }
 
     pub fn with_offset(mut self, offset: u64) -> Scalars
-        ensures { λ r. ⌜ r ≡ withOffset self offset ⌝ }
+        ensures { λ r. ⌜ r ≡ withLogSize self offset ⌝ }
     {
         self.wal_offset = offset;
         self

@@ -15,27 +15,27 @@ use Rattle.window.specs.ByPlace.{atPlace, filled-cases}
 use Rattle.replica.specs.declared.Replica.{Replica}
 use Rattle.replica.specs.Messages.{prepareTop, appendedAs, appended}
 
-module _ (r : Replica) (j i : ℕ) where
-  pub appended-long : size (appended r j i) ≡ size (r .window)
+module _ (r : Replica) (i j : ℕ) where
+  pub appended-long : size (appended r i j) ≡ size (r .window)
   appended-long = filled-long (appendedAs r j) (r .window) (i + 1)
 
-  pub appended-low : r .window .len ≤ appended r j i .len
+  pub appended-low : r .window .len ≤ appended r i j .len
   appended-low = filled-low (appendedAs r j) (r .window) (i + 1)
 
-  pub appended-has : i < appended r j i .len
+  pub appended-has : i < appended r i j .len
   appended-has = omega (arith, filled-has (appendedAs r j) (r .window) (i + 1))
 
-  pub appended-most : (k : ℕ) → r .window .len ≤ k → i < k → appended r j i .len ≤ k
+  pub appended-most : (k : ℕ) → r .window .len ≤ k → i < k → appended r i j .len ≤ k
   appended-most k p q = filled-most (appendedAs r j) (r .window) (i + 1) k p (omega arith)
 
-  pub appended-each : (P : Slot → Type 0) (k : ℕ) → k < appended r j i .len → (k < r .window .len → P (slotAt (r .window) k)) → P (appendedAs r j)
+  pub appended-each : (P : Slot → Type 0) (k : ℕ) → k < appended r i j .len → (k < r .window .len → P (slotAt (r .window) k)) → P (appendedAs r j)
       → (size (r .window) ≤ k → P noSlot)
-      → P (slotAt (appended r j i) k)
+      → P (slotAt (appended r i j) k)
   appended-each P k l old new past = filled-each (appendedAs r j) (r .window) (i + 1) P k l old new past
 
-pub appended-cases : (P : Slot → Type 0) (r : Replica) (j i k : ℕ) → i < size (r .window) → (r .window .len ≤ k → P (appendedAs r j)) → P (atPlace (r .window) k)
-    → P (atPlace (appended r j i) k)
-appended-cases P r j i k h new old = filled-cases P (appendedAs r j) (r .window) (i + 1) k (omega arith) new old
+pub appended-cases : (P : Slot → Type 0) (r : Replica) (i j k : ℕ) → i < size (r .window) → (r .window .len ≤ k → P (appendedAs r j)) → P (atPlace (r .window) k)
+    → P (atPlace (appended r i j) k)
+appended-cases P r i j k h new old = filled-cases P (appendedAs r j) (r .window) (i + 1) k (omega arith) new old
 
 -- the last place that a Prepare covers is in the window
 pub top-within : (w : Window) (from : ℕ) → from < w .len → prepareTop w from < w .len

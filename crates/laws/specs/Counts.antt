@@ -92,7 +92,7 @@ append-few r i = length-gather (λ k. promise (number (r .sc) k) (r .sc .«bal_p
 -- the list behind the window stays as long
 module _ (r : Replica) (peer : ℕ) (m : Reply) where
   pub heard-long : size (heardWindow r m) ≡ size (r .window)
-  heard-long = put-long (replyWindow r m) (place (r .sc) (m .slot)) _ ∙ appended-long r (place (r .sc) (m .trigger)) (place (r .sc) (m .slot))
+  heard-long = put-long (replyWindow r m) (place (r .sc) (m .slot)) _ ∙ appended-long r (place (r .sc) (m .slot)) (place (r .sc) (m .trigger))
 
   pub counted-long : size (countedWindow r peer m) ≡ size (r .window)
   counted-long = put-long (heardWindow r m) (place (r .sc) (m .trigger)) _ ∙ heard-long
@@ -106,7 +106,7 @@ module _ (P : Outcome → Type 0) (r : Replica) (peer : ℕ) (m : Reply) (room :
       let j : ℕ = place (r .sc) (m .trigger) in
       let fixed = fallen-fixed (r .sc) (r .bars) peer (m .bar) in
       replyOn-ways P r peer m (λ a h z. k a h)
-      (λ f a. on _ _ (omega (arith, reply-place r m f, append-few r i)) fixed (appended-long r j i))
+      (λ f a. on _ _ (omega (arith, reply-place r m f, append-few r i)) fixed (appended-long r i j))
       (λ f h e. on _ _ (omega (arith, reply-place r m f, append-few r i)) fixed (heard-long r peer m))
       (λ f h e q. on _ _ (omega (arith, reply-place r m f, append-few r i)) fixed (counted-long r peer m))
       (λ f h e q b.
@@ -119,7 +119,7 @@ module _ (P : Outcome → Type 0) (r : Replica) (peer : ℕ) (m : Reply) (room :
         f .high,
         f .logged,
         append-few r i,
-        appended-most r j i 64 room (reply-place r m f),
+        appended-most r i j 64 room (reply-place r m f),
         length-append (appendActs r i) (gather g j (replyWindow r m .len)),
         length-gather-two g (λ k. enter-few (number (tabledSc r peer m) k) (m .ballot) (slotAt (countedWindow r peer m) k)) j (replyWindow r m .len),
       ))

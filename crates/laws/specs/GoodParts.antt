@@ -54,7 +54,8 @@ module _ (sc : Scalars) (len : ℕ) (f : FitNumbers sc len) where
       }
 
   -- ballots may be anything, the leader is a member
-  pub numbers-ballots : (leader sent prepared seen : ℕ) → leader < sc .group → FitNumbers (withBallots sc leader sent prepared seen) len
+  pub numbers-ballots : (leader sent prepared seen : ℕ) → leader < sc .group
+      → FitNumbers (withBallots sc (record { leader = leader; «bal_prep_sent» = sent; «bal_prepared» = prepared; «bal_max_seen» = seen })) len
   numbers-ballots leader sent prepared seen h =
       record {
         size = f .size;
@@ -90,7 +91,9 @@ module _ (sc : Scalars) (len : ℕ) (f : FitNumbers sc len) where
 
   -- the bars in their order
   pub numbers-moved : (accept commit exec offset max : ℕ) → sc .start ≤ exec → exec ≤ commit → commit ≤ sc .start + len → sc .start ≤ accept → accept ≤ sc .start + len
-      → FitNumbers (withNumbers sc accept commit exec offset max) len
+      → FitNumbers
+      (withNumbers sc (record { «accept_bar» = accept; «commit_bar» = commit; «exec_bar» = exec; «wal_offset» = offset; «peer_accept_max» = max }))
+      len
   numbers-moved accept commit exec offset max a b c d e =
       record {
         size = f .size;
@@ -113,7 +116,7 @@ module _ (sc : Scalars) (len : ℕ) (f : FitNumbers sc len) where
 pub numbers-led : (sc : Scalars) (len ballot : ℕ) → FitNumbers sc len → FitNumbers (steppedUp sc ballot) len
 numbers-led sc len ballot f =
     let g = numbers-ballots sc len f (sc .id) ballot 0 ballot (f .member) in
-    numbers-moved (withBallots sc (sc .id) ballot 0 ballot) len g (sc .«accept_bar») (sc .«commit_bar») (sc .«exec_bar») (sc .«wal_offset») _ (f .exec) (f .commit) (f .log)
+    numbers-moved (withBallots sc (record { leader = sc .id; «bal_prep_sent» = ballot; «bal_prepared» = 0; «bal_max_seen» = ballot })) len g (sc .«accept_bar») (sc .«commit_bar») (sc .«exec_bar») (sc .«wal_offset») _ (f .exec) (f .commit) (f .log)
     (f .accept) (f .accept-log)
 
 pub bars-long : (sc : Scalars) (b : PeerBars) (m bar : ℕ) → length (withBar sc b m bar .bars) ≡ length (b .bars)

@@ -126,12 +126,12 @@ module _ (Z : Type 0) (group : ℕ) where
             sweep-each f from to w (GoodSlot Z group) j (g .each j l) (λ a b p. h j (slotAt w j) p) (good-past w j (g .long) (omega (arith, g .room)));
       }
 
-  pub good-appended : (r : Replica) (j i : ℕ) → i < 64 → GoodWindow Z group (r .window) → GoodWindow Z group (appended r j i)
-  good-appended r j i h g =
+  pub good-appended : (r : Replica) (i j : ℕ) → i < 64 → GoodWindow Z group (r .window) → GoodWindow Z group (appended r i j)
+  good-appended r i j h g =
       record {
-        room = appended-most r j i 64 (g .room) h;
-        long = λ z. appended-long r j i ∙ g .long z;
+        room = appended-most r i j 64 (g .room) h;
+        long = λ z. appended-long r i j ∙ g .long z;
         each = λ k l.
-            appended-each r j i (GoodSlot Z group) k l (g .each k) (good-redone (r .sc .«bal_prep_sent») _ _ nullSlot good-null)
-            (good-past (r .window) k (g .long) (omega (arith, appended-most r j i 64 (g .room) h)));
+            appended-each r i j (GoodSlot Z group) k l (g .each k) (good-redone (r .sc .«bal_prep_sent») _ _ nullSlot good-null)
+            (good-past (r .window) k (g .long) (omega (arith, appended-most r i j 64 (g .room) h)));
       }

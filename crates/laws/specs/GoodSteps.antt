@@ -94,18 +94,18 @@ module _ (Z : Type 0) (r : Replica) (g : Good Z r) where
       let j : ℕ = place (r .sc) (m .trigger) in
       let group : ℕ = r .sc .group in
       let w : Answers r m → GoodWindow Z group (replyWindow r m) =
-      λ f. good-appended Z group r j i (reply-place r m f) (g .window) in
+      λ f. good-appended Z group r i j (reply-place r m f) (g .window) in
       let heard : Answers r m → GoodWindow Z group (heardWindow r m) =
       λ f.
       good-put Z group (replyWindow r m) i (heardSlot (replySlot r m) m)
-      (good-heard Z group (replySlot r m) m vote (w f .each i (appended-has r j i))) (w f) in
+      (good-heard Z group (replySlot r m) m vote (w f .each i (appended-has r i j))) (w f) in
       let counted : Answers r m → GoodWindow Z group (countedWindow r peer m) =
       λ f.
       good-put Z group (heardWindow r m) j _
-      (good-counted Z group peer (triggerSlot r m) member (heard f .each j (omega (arith, f .low, f .logged, appended-low r j i)))) (heard f) in
+      (good-counted Z group peer (triggerSlot r m) member (heard f .each j (omega (arith, f .low, f .logged, appended-low r i j)))) (heard f) in
       let fixed = fallen-fixed (r .sc) (r .bars) peer (m .bar) in
       let numbers : Answers r m → FitNumbers (tabledSc r peer m) (replyWindow r m .len) =
-      λ f. numbers-fallen (r .sc) _ (numbers-more (r .sc) (r .window .len) (g .numbers) _ (appended-low r j i) (w f .room)) (r .bars) peer (m .bar) in
+      λ f. numbers-fallen (r .sc) _ (numbers-more (r .sc) (r .window .len) (g .numbers) _ (appended-low r i j) (w f .room)) (r .bars) peer (m .bar) in
       let keys = good-keys Z (adoptsVote (replySlot r m) m) (m .slot) (heardSlot (replySlot r m) m .batch) (r .keys) (g .keys) in
       let bars : Z → length (Rattle.decide.specs.Bars.withBar (r .sc) (r .bars) peer (m .bar) .bars) ≡ 9 = λ z. bars-long (r .sc) (r .bars) peer (m .bar) ∙ g .bars z in
       replyOn-ways P r peer m (λ a h z. k a h)

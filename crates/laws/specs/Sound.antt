@@ -27,7 +27,7 @@ use Rattle.replica.specs.Record.{Outcome, place, number}
 use Rattle.replica.specs.Messages.{prepareBook, prepareStep, orKept, cleanReply, prepareReplyStep, acceptStep, acceptReplyStep}
 use Rattle.replica.specs.Leadership.{timeoutStep, commitNoticeStep}
 use Rattle.replica.specs.Durability.{movedAccept, passStop, loggedStep}
-use Rattle.replica.specs.Quorumread.{readAct, openReadStep, readReplyStep}
+use Rattle.replica.specs.Quorumread.{answerAct, openReadStep, readReplyStep}
 use Rattle.replica.specs.Added.{movedExec, offerStep, executedStep}
 use Rattle.replica.specs.Step.{Call, callPrepare, callPrepareReply, callAccept, callAcceptReply, callCommitNotice, callTimeout, callLogged, callOffer, callExecuted, callOpenRead, callReadReply, step}
 use Rattle.laws.specs.OfScalars.{Fixed, fixed-same, fixed-then, followed-fixed}
@@ -142,7 +142,7 @@ module _ (C : Outcome → Type 0) where
 
   sound-closed : (r : Replica) (i : ℕ) (d : Read) (k : ℕ) → k ≤ 8 → Sound C r (closed r i d k)
   sound-closed r i d k h =
-      sound-done r _ _ (omega (arith, length-gather (λ i. readAct (r .sc .leader) d i ∷ []) (λ i. le-refl 1) 0 k)) (fixed-same (r .sc)) refl
+      sound-done r _ _ (omega (arith, length-gather (λ i. answerAct (r .sc .leader) d i ∷ []) (λ i. le-refl 1) 0 k)) (fixed-same (r .sc)) refl
 
   sound-stayed : (r : Replica) (i : ℕ) (d : Read) → Sound C r (stayed 0 r i d)
   sound-stayed r i d = sound-done r _ _ (omega arith) (fixed-same (r .sc)) refl

@@ -20,7 +20,7 @@ use Rattle.tally.specs.declared.Read.{Read}
 use Rattle.tally.specs.declared.Opened.{Opened}
 use Rattle.tally.specs.declared.Replied.{Replied}
 use Rattle.tally.specs.Merge.{conflictAt, mergeUpTo, merge}
-use Rattle.tally.specs.Open.{newRead, noRead, findRead, isOpen, openRead, closeRead, putRead, withTally, withAck, smaller, counted, replyTo}
+use Rattle.tally.specs.Open.{newRead, noRead, findRead, isOpen, openRead, closeRead, putRead, withTally, withAck, smaller, acknowledged, replyTo}
 use Rattle.actions.specs.Actions.{saysActs}
 use Rattle.slots.specs.Slots.{executedSlot}
 use Rattle.decide.specs.declared.Decided.{Decided}
@@ -33,7 +33,7 @@ use Rattle.replica.specs.Record.{Outcome, settled, place, logEnd}
 use Rattle.replica.specs.Fit.{fit, ready}
 use Rattle.replica.specs.Messages.{clean}
 use Rattle.replica.specs.Added.{offerStep, movedExec, executedStep}
-use Rattle.replica.specs.Quorumread.{withReads, opened, openReadStep, readAct, repliedStep, readReplyStep}
+use Rattle.replica.specs.Quorumread.{withReads, opened, openReadStep, answerAct, repliedStep, readReplyStep}
 use Rattle.laws.specs.Leaves.{done, settledTo, noting-ways}
 use Rattle.laws.specs.WaysMessages.{Keeps, ready-fit}
 
@@ -70,15 +70,15 @@ offerStep-ways P r n b k on =
 abbrev pub executedWindow : Replica → ℕ → Window
 executedWindow r slot = putSlot (r .window) (place (r .sc) slot) (executedSlot (slotAt (r .window) (place (r .sc) slot)))
 
-abbrev pub executed : Replica → ℕ → Outcome
-executed r slot = done (movedExec r (executedWindow r slot)) []
+abbrev pub afterExecuted : Replica → ℕ → Outcome
+afterExecuted r slot = done (movedExec r (executedWindow r slot)) []
 
 pub record Executes (r : Replica) (slot : ℕ) : Type 0 where
   pub fits : fit r ≡ true
   pub low : r .sc .start ≤ slot
   pub high : slot < logEnd r
 
-pub executedStep-ways : (P : Outcome → Type 0) (r : Replica) (n slot : ℕ) → Keeps P r → (Executes r slot → P (executed r slot)) → P (executedStep r n slot)
+pub executedStep-ways : (P : Outcome → Type 0) (r : Replica) (n slot : ℕ) → Keeps P r → (Executes r slot → P (afterExecuted r slot)) → P (executedStep r n slot)
 unfolding executedStep
 executedStep-ways P r n slot k on =
     pick-cases P (not (ready r n)) (λ a. k 1 (omega arith))
@@ -130,7 +130,7 @@ readAt r i = getD (r .reads .reads) i noRead
 
 -- the read closes and answers
 abbrev pub closed : Replica → ℕ → Read → ℕ → Outcome
-closed r i d answers = done (withReads r (closeRead (r .reads) i)) (gather (λ k. readAct (r .sc .leader) d k ∷ []) 0 answers)
+closed r i d answers = done (withReads r (closeRead (r .reads) i)) (gather (λ k. answerAct (r .sc .leader) d k ∷ []) 0 answers)
 
 -- the read stays open
 abbrev pub stayed : ℕ → Replica → ℕ → Read → Outcome
@@ -157,7 +157,7 @@ module _ (P : Outcome → Type 0) (r : Replica) (n peer id : ℕ) (fromLeader : 
       let d : Read = readAt r i in
       pick-cases (λ (x : Replied). P (repliedStep r i x)) fromLeader (λ a. told)
       (λ a. pick-cases (λ (x : Replied). P (repliedStep r i x)) (has (d .acks) peer) (λ b. same)
-      (λ b. merge-ways (λ (m : Merged). P (repliedStep r i (counted (quorum (r .sc)) peer d m))) (d .tally) reply (k 1 (omega arith)) (k 6 (omega arith))
+      (λ b. merge-ways (λ (m : Merged). P (repliedStep r i (acknowledged (quorum (r .sc)) peer d m))) (d .tally) reply (k 1 (omega arith)) (k 6 (omega arith))
       (λ c. conflict c)
       (λ c. ⊎-elim (λ (e : leb (quorum (r .sc)) (countIn (withAck (mergedRead d reply c) peer .acks)) ≡ true). rw e (full c))
       (λ (e : leb (quorum (r .sc)) (countIn (withAck (mergedRead d reply c) peer .acks)) ≡ false). rw e (less c))

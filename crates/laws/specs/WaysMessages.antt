@@ -157,8 +157,8 @@ repliedSlot r slot = slotAt (r .window) (place (r .sc) slot)
 abbrev pub acknowledged : Replica → ℕ → ℕ → Outcome
 acknowledged r peer slot = done (withWindow r (r .sc) (putSlot (r .window) (place (r .sc) slot) (acknowledgedSlot peer (repliedSlot r slot)))) []
 
-abbrev pub committed : Replica → ℕ → ℕ → Outcome
-committed r peer slot =
+abbrev pub afterCommitted : Replica → ℕ → ℕ → Outcome
+afterCommitted r peer slot =
     let d = commits (r .sc) (repliedSlot r slot) peer slot in
     done (withWindow r (r .sc) (putSlot (r .window) (place (r .sc) slot) (d .slot))) (saysActs (d .says) (d .keys))
 
@@ -172,7 +172,7 @@ pub record Replies (r : Replica) (peer slot ballot : ℕ) : Type 0 where
 
 pub acceptReplyStep-ways : (P : Outcome → Type 0) (r : Replica) (n peer slot ballot : ℕ) → Keeps P r
     → (Replies r peer slot ballot → countIn (acknowledgedSlot peer (repliedSlot r slot) .leader .«accept_acks») < quorum (r .sc) → P (acknowledged r peer slot))
-    → (Replies r peer slot ballot → quorum (r .sc) ≤ countIn (acknowledgedSlot peer (repliedSlot r slot) .leader .«accept_acks») → P (committed r peer slot))
+    → (Replies r peer slot ballot → quorum (r .sc) ≤ countIn (acknowledgedSlot peer (repliedSlot r slot) .leader .«accept_acks») → P (afterCommitted r peer slot))
     → P (acceptReplyStep r n peer slot ballot)
 unfolding acceptReplyStep settled noting
 acceptReplyStep-ways P r n peer slot ballot k more full =

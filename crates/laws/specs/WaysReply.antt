@@ -61,7 +61,7 @@ decideVote-heard P sc s m six on =
 
 -- the windows of a reply: with the slot in it, with the vote heard, with the member counted at the trigger slot
 abbrev pub replyWindow : Replica → Reply → Window
-replyWindow r m = appended r (place (r .sc) (m .trigger)) (place (r .sc) (m .slot))
+replyWindow r m = appended r (place (r .sc) (m .slot)) (place (r .sc) (m .trigger))
 
 abbrev pub replySlot : Replica → Reply → Slot
 replySlot r m = slotAt (replyWindow r m) (place (r .sc) (m .slot))

@@ -8,7 +8,7 @@ use Rattle.base.specs.Scan.{scan}
 use Rattle.batch.specs.declared.Batch.{Batch}
 use Rattle.batch.specs.Batches.{isBatch}
 use Rattle.slots.specs.Slots.{executed, executedSlot}
-use Rattle.decide.specs.Scalars.{withBars}
+use Rattle.decide.specs.Scalars.{withExecBar}
 use Rattle.decide.specs.Decide.{mayOffer, decideOffer}
 use Rattle.window.specs.declared.Window.{Window}
 use Rattle.window.specs.Window.{slotAt, putSlot, grown}
@@ -30,7 +30,7 @@ offerStep r room b =
 unfoldable pub movedExec : Replica → Window → Replica
 movedExec r w =
     withWindow r
-    (withBars (r .sc) (r .sc .«accept_bar») (r .sc .«commit_bar»)
+    (withExecBar (r .sc)
     (number (r .sc) (scan (λ i. eqb (slotAt w i .status) executed) (place (r .sc) (r .sc .«exec_bar»)) (place (r .sc) (r .sc .«commit_bar»)))))
     w
 

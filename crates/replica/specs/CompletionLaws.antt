@@ -1,15 +1,16 @@
 -- The laws of a log completion: each way through its functions, and that a refusal by the entry's handler leaves the room as it was.
 use mathlib.Core.Path.{_≡_, refl, sym, ap, _∙_}
 use mathlib.Core.Bool.{Bool, true, false, not, _&&_, and-false}
-use mathlib.Core.List.{List, [], _∷_, _++_}
-use Prim.Native.Nat.{ℕ, _+_, _-_, _≤_, _<_}
-use native.Mathlib.Nat.{add-zero, zero-add}
+use mathlib.Core.List.{List, [], _∷_, _++_, append-assoc, append-nil}
+use mathlib.Core.Logic.{⊎-elim}
+use Prim.Native.Nat.{ℕ, zero, suc, _+_, _-_, _≤_, _<_}
+use native.Mathlib.Nat.{add-zero, zero-add, eq-or-lt-of-le}
 use native.Mathlib.Omega.{arith}
 use lib.Dec.{leb, eqb}
 use lib.ListN.{length, set, length-append}
 use borrow.Author.Tests.{lt-ltb, le-ltb, le-leb, lt-leb, eq-eqb, ne-eqb, eqb-true}
 use Rattle.base.specs.Pick.{pick, pick-both, pick-cases}
-use Rattle.base.specs.Gather.{gather}
+use Rattle.base.specs.Gather.{gather, gather-none}
 use Rattle.base.specs.Scan.{scan-low, scan-below}
 use Rattle.batch.specs.declared.Batch.{Batch}
 use Rattle.batch.specs.Keys.{overfull}
@@ -21,7 +22,7 @@ use Rattle.slots.specs.Slots.{loggedSlot, passedSlot}
 use Rattle.decide.specs.declared.Scalars.{Scalars}
 use Rattle.decide.specs.declared.Decided.{Decided}
 use Rattle.decide.specs.declared.Reply.{Reply}
-use Rattle.decide.specs.Scalars.{leads, withBars, withOffset, notifies}
+use Rattle.decide.specs.Scalars.{leads, withBars, withLogSize, notifies}
 use Rattle.decide.specs.Decide.{decidePromised, decideAccepted}
 use Rattle.decide.specs.Laws.{Steady, Settles, done, refused, settles-accepted}
 use Rattle.decide.specs.PrepareReply.{ownReply}
@@ -67,6 +68,33 @@ module _ (sc : Scalars) (bar end : ℕ) (still : Bool) (n : ℕ) (room : List �
   notice-one after e f w =
       let s : said ≡ bare (CommitNotice (record { ballot = sc .«bal_max_seen»; bar = bar })) ∷ [] = rw (e, f) in
       record { next = rw s; written = rw s w }
+
+-- the source's loop has the notice inside, after each turn of which commit_bar is the log end: the same actions as `passOn`'s, one notice after it
+module _ (r : Replica) where
+  abbrev passing : ℕ → List Act
+  passing i = passActs (number (r .sc) i) (slotAt (r .window) i)
+
+  abbrev notice : ℕ → List Act
+  notice i = noticeActs (r .sc) (number (r .sc) i) (logEnd r)
+
+  abbrev pub turnActs : ℕ → List Act
+  turnActs i = passing i ++ notice (suc i)
+
+  -- below the log end no turn gives a notice
+  turns-quiet : (from stop : ℕ) → stop < r .window .len → gather turnActs from stop ≡ gather passing from stop
+  turns-quiet from zero h = refl
+  turns-quiet from (suc j) h =
+      rw (ne-eqb (r .sc .start + suc j) (logEnd r) (λ e. omega arith), append-nil (passing j), turns-quiet from j (omega arith))
+
+  pub notice-inside : (from stop : ℕ) → from ≤ stop → stop ≤ r .window .len → gather turnActs from stop ≡ passOn r from stop .actions
+  unfolding passOn
+  notice-inside from zero l h = rw (eq-eqb from 0 (omega arith))
+  notice-inside from (suc j) l h =
+      ⊎-elim
+      (λ (e : from ≡ suc j). rw (eq-eqb from (suc j) e, gather-none turnActs from (suc j) (omega arith), gather-none passing from (suc j) (omega arith)))
+      (λ (u : from < suc j).
+      rw (ne-eqb from (suc j) (λ e. omega arith), le-leb from j (omega arith), turns-quiet from j (omega arith), append-assoc (gather passing from j) (passing j) (notice (suc j))))
+      (eq-or-lt-of-le l)
 
 -- ── commit_bar ──
 module _ (r : Replica) (from stop : ℕ) where
@@ -243,7 +271,7 @@ reply-quiet r peer m =
     (pick-both Quiet (not (slotAt (r .window) (place (r .sc) (m .trigger)) .leader .present)) (kept-quiet 0 r)
     (pick-both Quiet (leb (r .sc .start + 64) (m .slot)) (kept-quiet 5 r)
     (orKept-quiet r
-    (repliedOn (tabled r peer (m .bar)) (appended r (place (r .sc) (m .trigger)) (place (r .sc) (m .slot))) (place (r .sc) (m .slot)) (place (r .sc) (m .trigger)) peer m
+    (repliedOn (tabled r peer (m .bar)) (appended r (place (r .sc) (m .slot)) (place (r .sc) (m .trigger))) (place (r .sc) (m .slot)) (place (r .sc) (m .trigger)) peer m
     (appendActs r (place (r .sc) (m .slot)))))))))
 
 moved-quiet : (slot : ℕ) (o : Outcome) → Quiet o → Quiet (thenMoved slot o)
@@ -260,7 +288,7 @@ done-quiet r i slot CommitSlot = pick-both Quiet (not (eqb slot (r .sc .«commit
 
 -- ── the whole ──
 module _ (r : Replica) (i size : ℕ) where
-  pub logged-on : (t : Slot) (sc : Scalars) → t ≡ loggedSlot (r .sc .«wal_offset») (slotAt (r .window) i) → sc ≡ withOffset (r .sc) size
+  pub logged-on : (t : Slot) (sc : Scalars) → t ≡ loggedSlot (r .sc .«wal_offset») (slotAt (r .window) i) → sc ≡ withLogSize (r .sc) size
       → record { sc = sc; bars = r .bars; window = record { len = r .window .len; slots = set (r .window .slots) i t }; keys = r .keys; reads = r .reads } ≡ loggedOn r i size
   unfolding loggedOn
   logged-on t sc e f = rw (e, f)

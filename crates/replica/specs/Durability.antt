@@ -11,7 +11,7 @@ use Rattle.actions.specs.Actions.{Act, bare}
 use Rattle.slots.specs.declared.Slot.{Slot}
 use Rattle.slots.specs.Slots.{accepting, committed, loggedSlot, passedSlot}
 use Rattle.decide.specs.declared.Scalars.{Scalars}
-use Rattle.decide.specs.Scalars.{leads, notifies, withBars, withOffset}
+use Rattle.decide.specs.Scalars.{leads, notifies, withAcceptBar, withCommitBar, withLogSize}
 use Rattle.decide.specs.Decide.{decidePromised, decideAccepted}
 use Rattle.decide.specs.PrepareReply.{ownReply}
 use Rattle.window.specs.Window.{slotAt, putSlot, sweep}
@@ -42,9 +42,8 @@ unfoldable pub movedAccept : Replica → ℕ → Replica
 movedAccept r slot =
     pick (not (eqb slot (r .sc .«accept_bar»))) r
     (withWindow r
-    (withBars (r .sc)
-    (number (r .sc) (scan (λ i. leb accepting (slotAt (r .window) i .status)) (place (r .sc) (r .sc .«accept_bar»)) (r .window .len)))
-    (r .sc .«commit_bar») (r .sc .«exec_bar»))
+    (withAcceptBar (r .sc)
+    (number (r .sc) (scan (λ i. leb accepting (slotAt (r .window) i .status)) (place (r .sc) (r .sc .«accept_bar»)) (r .window .len))))
     (r .window))
 
 abbrev pub thenMoved : ℕ → Outcome → Outcome
@@ -61,12 +60,14 @@ noticeActs sc bar end =
     (bare (CommitNotice (record { ballot = sc .«bal_max_seen»; bar = bar })) ∷ [])
     []
 
--- "update index of the first non-committed instance": commit_bar walks from place `from` to `stop`
+-- "update index of the first non-committed instance": commit_bar walks from place `from` to `stop`. The source's notice stands inside the loop,
+-- after a turn that brings commit_bar to the log end. `stop` is not past the log end, so that is the last turn or none: one notice after the
+-- loop, if it made a turn, is the same (`notice-inside` of CompletionLaws)
 unfoldable pub passOn : Replica → ℕ → ℕ → Outcome
 passOn r from stop =
     record {
       answer = 0;
-      replica = withWindow r (withBars (r .sc) (r .sc .«accept_bar») (number (r .sc) stop) (r .sc .«exec_bar»)) (sweep (λ i s. passedSlot s) from stop (r .window));
+      replica = withWindow r (withCommitBar (r .sc) (number (r .sc) stop)) (sweep (λ i s. passedSlot s) from stop (r .window));
       actions =
           gather (λ i. passActs (number (r .sc) i) (slotAt (r .window) i)) from stop
           ++ pick (eqb from stop) [] (noticeActs (r .sc) (number (r .sc) stop) (logEnd r));
@@ -87,7 +88,7 @@ doneOn r i slot CommitSlot = committedDone r slot
 -- "update first wal_offset of slot, then update self.wal_offset"
 unfoldable pub loggedOn : Replica → ℕ → ℕ → Replica
 loggedOn r i size =
-    withWindow r (withOffset (r .sc) size) (putSlot (r .window) i (loggedSlot (r .sc .«wal_offset») (slotAt (r .window) i)))
+    withWindow r (withLogSize (r .sc) size) (putSlot (r .window) i (loggedSlot (r .sc .«wal_offset») (slotAt (r .window) i)))
 
 -- "A completion below start changes nothing, not even wal_offset"; a refusal of the entry's handler refuses the whole call
 unfoldable pub loggedStep : Replica → ℕ → Done → Outcome

@@ -17,5 +17,6 @@ fit r =
 abbrev pub roomy : ℕ → Bool
 roomy room = leb 3456 room
 
+-- what a call asks first, or it is 1: the record is fit, and the room is long enough
 abbrev pub ready : Replica → ℕ → Bool
 ready r room = roomy room && fit r

@@ -45,9 +45,11 @@ leadOn r w trigger endprep ballot =
 unfoldable pub stepUp : Replica → NextBallot → Outcome
 stepUp r Spent = kept (nextAnswer Spent) r
 stepUp r (Ballot b) =
-    pick (ltb (number (r .sc) (firstOpen (r .window))) (r .sc .«exec_bar»)) (kept 8 r)
-    (pick (leb 64 (firstOpen (r .window))) (kept 5 r)
-    (leadOn r (grown (r .window) (firstOpen (r .window) + 1)) (number (r .sc) (firstOpen (r .window))) (number (r .sc) (lastOpen (r .window))) b))
+    let first : ℕ = firstOpen (r .window) in
+    let last : ℕ = lastOpen (r .window) in
+    pick (ltb (number (r .sc) first) (r .sc .«exec_bar»)) (kept 8 r)
+    (pick (leb 64 first) (kept 5 r)
+    (leadOn r (grown (r .window) (first + 1)) (number (r .sc) first) (number (r .sc) last) b))
 
 unfoldable pub timeoutStep : Replica → ℕ → ℕ → Outcome
 timeoutStep r room source =

@@ -65,13 +65,13 @@ prepareStep r room peer trigger ballot =
     (pick (leb (r .sc .start + 64) trigger) (kept 5 r)
     (prepareOn r (grown (r .window) (place (r .sc) trigger + 1)) (place (r .sc) trigger) peer ballot))))))
 
--- ── PrepareReply ──
+-- ── PrepareReply: i is the place of its slot, j that of its trigger ──
 -- "past the log end it appends slots, and logs them": the slot, and the window with it up to place i
 abbrev pub appendedAs : Replica → ℕ → Slot
 appendedAs r j = appendedSlot (r .sc .«bal_prep_sent») (newBook (number (r .sc) j) (slotAt (r .window) j .leader .endprep))
 
 abbrev pub appended : Replica → ℕ → ℕ → Window
-appended r j i = filled (appendedAs r j) (r .window) (i + 1)
+appended r i j = filled (appendedAs r j) (r .window) (i + 1)
 
 abbrev pub appendActs : Replica → ℕ → List Act
 appendActs r i = gather (λ k. promise (number (r .sc) k) (r .sc .«bal_prep_sent») ∷ []) (r .window .len) (i + 1)
@@ -88,11 +88,11 @@ countedOn r w j ballot acts d =
     (pick (not (isCounted (d .sc) (d .slot))) (record { answer = 0; replica = withWindow r (d .sc) (putSlot w j (d .slot)); actions = acts })
     (record {
       answer = 0;
-      replica = withWindow r (d .sc) (sweep (λ i s. enteredSlot s) j (w .len) (putSlot w j (d .slot)));
-      actions = acts ++ gather (λ i. enterActs (number (r .sc) i) ballot (slotAt (putSlot w j (d .slot)) i)) j (w .len);
+      replica = withWindow r (d .sc) (sweep (λ k s. enteredSlot s) j (w .len) (putSlot w j (d .slot)));
+      actions = acts ++ gather (λ k. enterActs (number (r .sc) k) ballot (slotAt (putSlot w j (d .slot)) k)) j (w .len);
     }))
 
--- the vote is decided for the slot at place i; "a member counts on its reply for its own endprep slot"
+-- the vote is decided for the slot at place i; "a member counts on its reply for its own endprep slot"; around the rest 7, the last test
 unfoldable pub votedOn : Replica → Window → ℕ → ℕ → ℕ → Reply → List Act → Decided → Outcome
 votedOn r w i j peer m acts d =
     pick (not (eqb (d .answer) 0)) (kept (d .answer) r)
@@ -106,7 +106,7 @@ repliedOn r w i j peer m acts =
     pick (not (awaitsPrepare (slotAt w i) (m .ballot))) (record { answer = 0; replica = withWindow r (r .sc) w; actions = acts })
     (votedOn r w i j peer m acts (decideVote (r .sc) (slotAt w i) (m .ballot) (m .voted) (m .vote)))
 
--- 6: the slot lies from trigger to endprep, and the trigger in the log
+-- `inLog` of a replica
 abbrev pub inRange : Replica → Reply → Bool
 inRange r m = inLog (r .sc .start) (r .window .len) m
 
@@ -118,15 +118,16 @@ orKept r o = pick (eqb (o .answer) 0) o (kept (o .answer) r)
 -- "PrepareReply updates the peer accept table before the slot's status is looked at"
 unfoldable pub replyOn : Replica → ℕ → Reply → Outcome
 replyOn r peer m =
+    let i : ℕ = place (r .sc) (m .slot) in
+    let j : ℕ = place (r .sc) (m .trigger) in
     pick (not (eqb (m .ballot) (r .sc .«bal_prep_sent»))) (kept 0 r)
     (pick (not (leads (r .sc))) (kept 4 r)
     (pick (not (inRange r m)) (kept 6 r)
-    (pick (not (slotAt (r .window) (place (r .sc) (m .trigger)) .leader .present)) (kept 0 r)
+    (pick (not (slotAt (r .window) j .leader .present)) (kept 0 r)
     (pick (leb (r .sc .start + 64) (m .slot)) (kept 5 r)
-    (orKept r
-    (repliedOn (tabled r peer (m .bar)) (appended r (place (r .sc) (m .trigger)) (place (r .sc) (m .slot))) (place (r .sc) (m .slot)) (place (r .sc) (m .trigger)) peer m
-    (appendActs r (place (r .sc) (m .slot)))))))))
+    (orKept r (repliedOn (tabled r peer (m .bar)) (appended r i j) i j peer m (appendActs r i)))))))
 
+-- `clean` of the batch that a reply's vote has
 abbrev pub cleanReply : Reply → Reply
 cleanReply m = withVoted m (clean (m .vote .batch))
 

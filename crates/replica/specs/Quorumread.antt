@@ -30,15 +30,15 @@ unfoldable pub openReadStep : Replica → ℕ → ℕ → ℕ → List ℕ → O
 openReadStep r room id count keys = pick (not (ready r room)) (kept 1 r) (opened r (openRead (r .reads) id count keys))
 
 -- the answer for the key at a place: "A read answer has read id, place, tag and value (or leader, 255 = none)"
-abbrev pub readAct : ℕ → Read → ℕ → Act
-readAct leader d i =
+abbrev pub answerAct : ℕ → Read → ℕ → Act
+answerAct leader d i =
     bare (ReadAnswer (record { read = d .id; place = i; tag = answerOf leader (bestAt (d .tally) i) .tag; value = answerOf leader (bestAt (d .tally) i) .value }))
 
 -- what a reply makes of the read at place i: it closes and answers; it stays open as the reply leaves it; or the reply is refused
 unfoldable pub repliedStep : Replica → ℕ → Replied → Outcome
 repliedStep r i d =
     pick (d .closes)
-    (record { answer = 0; replica = withReads r (closeRead (r .reads) i); actions = gather (λ k. readAct (r .sc .leader) (d .read) k ∷ []) 0 (d .answers) })
+    (record { answer = 0; replica = withReads r (closeRead (r .reads) i); actions = gather (λ k. answerAct (r .sc .leader) (d .read) k ∷ []) 0 (d .answers) })
     (pick (staysOpen (d .answer)) (record { answer = d .answer; replica = withReads r (putRead (r .reads) i (d .read)); actions = [] })
     (kept (d .answer) r))
 

@@ -30,19 +30,19 @@ use Rattle.replica.specs.Fit.{ready}
 use Rattle.replica.specs.Admit.{fromMember}
 use Rattle.replica.specs.AdmitLaws.{unready-kept, ready-goes, gate-member, gate-shut, gate-open}
 use Rattle.replica.specs.ActingLaws.{acted}
-use Rattle.replica.specs.Quorumread.{withReads, openReadStep, readAct, repliedStep, readReplyStep}
+use Rattle.replica.specs.Quorumread.{withReads, openReadStep, answerAct, repliedStep, readReplyStep}
 use Rattle.replica.specs.Step.{Told}
 use Rattle.replica.specs.ReadCalls.{AnswerFits, answerActs, Answers}
 
 -- ── the answers of a closed read ──
 module _ (leader : ℕ) (read : Read) (room : List ℕ) where
   abbrev answerOne : ℕ → List Act
-  answerOne k = readAct leader read k ∷ []
+  answerOne k = answerAct leader read k ∷ []
 
   -- one answer, from what is known of its key
   pub answer-put : (after : List ℕ) (i : ℕ) (said : ReadAnswer) → AnswerFits i room → said ≡ answerOf leader (bestAt (read .tally) i)
       → after ≡ putAct room i (bare (answered (record { read = read .id; place = i; tag = said .tag; value = said .value })))
-      → after ≡ writeAt room i (readAct leader read i ∷ [])
+      → after ≡ writeAt room i (answerAct leader read i ∷ [])
   answer-put after i said f e p =
       p ∙ put-in room i _ (omega (arith, f .low)) (f .long)
       ∙ ap (λ (s : ReadAnswer). writeAt room i (bare (answered (record { read = read .id; place = i; tag = s .tag; value = s .value })) ∷ [])) e
@@ -51,7 +51,7 @@ module _ (leader : ℕ) (read : Read) (room : List ℕ) where
   pub answers-start : Answers leader read 0 room room
   answers-start = record { many = refl; written = room-start room 0 answerOne 0 }
 
-  pub answers-turn : (mid after : List ℕ) (i : ℕ) → Answers leader read i room mid → after ≡ writeAt mid i (readAct leader read i ∷ [])
+  pub answers-turn : (mid after : List ℕ) (i : ℕ) → Answers leader read i room mid → after ≡ writeAt mid i (answerAct leader read i ∷ [])
       → Answers leader read (i + 1) room after
   answers-turn mid after i p e =
       record {

@@ -6,7 +6,7 @@ use lib.ListN.{length}
 use Rattle.base.specs.Gather.{gather}
 use Rattle.tally.specs.declared.Read.{Read}
 use Rattle.actions.specs.Actions.{Act, writeAt}
-use Rattle.replica.specs.Quorumread.{readAct}
+use Rattle.replica.specs.Quorumread.{answerAct}
 
 -- a key's place, and room for 192 actions
 pub record AnswerFits (i : ℕ) (room : List ℕ) : Type 0 where
@@ -20,7 +20,7 @@ pub record AnswersFit (answers : ℕ) (room : List ℕ) : Type 0 where
 
 -- the answers for the first keys
 abbrev pub answerActs : ℕ → Read → ℕ → List Act
-answerActs leader read answers = gather (λ k. readAct leader read k ∷ []) 0 answers
+answerActs leader read answers = gather (λ k. answerAct leader read k ∷ []) 0 answers
 
 pub record Answers (leader : ℕ) (read : Read) (answers : ℕ) (room after : List ℕ) : Type 0 where
   pub many : answers ≡ length (answerActs leader read answers)

@@ -96,7 +96,8 @@ kept answer r = record { answer = answer; replica = r; actions = [] }
 abbrev pub withWindow : Replica → Scalars → Window → Replica
 withWindow r sc w = record { sc = sc; bars = r .bars; window = w; keys = r .keys; reads = r .reads }
 
--- 7: "the call would add more new keys than the table has free", last; else refresh_highest_slot with the batch that a slot takes
+-- 7: "the call would add more new keys than the table has free"; else refresh_highest_slot with the batch that a slot takes. 7 wraps the rest
+-- because it is the last test: it looks at an outcome that all other tests let through, and another answer stands as it is
 unfoldable pub noting : Replica → Bool → ℕ → Batch → Outcome → Outcome
 noting r noted slot b o =
     pick (not (noted && eqb (o .answer) 0)) o
@@ -113,7 +114,7 @@ noting r noted slot b o =
       actions = o .actions;
     }))
 
--- what was decided for the slot at place i of a window, carried out
+-- what was decided for the slot at place i of a window, carried out; around it 7, the last test
 unfoldable pub settled : Replica → Window → ℕ → ℕ → Decided → Outcome
 settled r w i slot d =
     pick (not (eqb (d .answer) 0)) (kept (d .answer) r)

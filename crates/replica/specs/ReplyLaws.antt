@@ -203,13 +203,13 @@ module _ (r : Replica) (sc : Scalars) (bars : PeerBars) (w : Window) (i j peer :
 fallen-start : (sc : Scalars) (b : PeerBars) (peer bar : ℕ) → withFallen sc b peer bar .start ≡ sc .start
 fallen-start sc b peer bar = ap (λ (x : Scalars). x .start) (fallen-is sc b peer bar .2)
 
-length-appended : (r : Replica) (j i : ℕ) → length (appended r j i .slots) ≡ length (r .window .slots)
-length-appended r j i = filled-long (appendedAs r j) (r .window) (i + 1)
+length-appended : (r : Replica) (i j : ℕ) → length (appended r i j .slots) ≡ length (r .window .slots)
+length-appended r i j = filled-long (appendedAs r j) (r .window) (i + 1)
 
 -- the slot at place i and its trigger at place j: the appended window, the scalars with a bar that fell, and what was weighed of them
 module _ (r : Replica) (peer : ℕ) (m : Reply) (i j : ℕ) (w : Window) (fallen : Scalars) (g : Weighed) where
   pub record Weighs : Type 0 where
-    pub window : w ≡ appended r j i
+    pub window : w ≡ appended r i j
     pub scalars : fallen ≡ withFallen (r .sc) (r .bars) peer (m .bar)
     pub weighs : g ≡ weighed fallen (slotAt w i) (slotAt w j) (eqb i j) peer m
     pub here : i < length (r .window .slots)
@@ -234,8 +234,8 @@ module _ (r : Replica) (peer : ℕ) (m : Reply) (i j : ℕ) (w : Window) (fallen
     reply-carried : replyAt r peer m i j ≡ carried r (withBar (r .sc) (r .bars) peer (m .bar)) w i j m (appendActs r i) g
     unfolding replyAt
     reply-carried =
-        replied-done r (withFallen (r .sc) (r .bars) peer (m .bar)) (withBar (r .sc) (r .bars) peer (m .bar)) (appended r j i) i j peer m (appendActs r i) (fallen-start (r .sc) (r .bars) peer (m .bar))
-        (omega (arith, e .here, length-appended r j i))
+        replied-done r (withFallen (r .sc) (r .bars) peer (m .bar)) (withBar (r .sc) (r .bars) peer (m .bar)) (appended r i j) i j peer m (appendActs r i) (fallen-start (r .sc) (r .bars) peer (m .bar))
+        (omega (arith, e .here, length-appended r i j))
         ∙ rw (e .weighs, e .scalars, e .window)
 
     pub reply-refused : (g .answer ≡ 0 → ⊥) → replyAt r peer m i j ≡ kept (g .answer) r

@@ -59,4 +59,4 @@ carried r bars w i j m acts g =
 
 -- replyOn past its tests
 unfoldable pub replyAt : Replica → ℕ → Reply → ℕ → ℕ → Outcome
-replyAt r peer m i j = orKept r (repliedOn (tabled r peer (m .bar)) (appended r j i) i j peer m (appendActs r i))
+replyAt r peer m i j = orKept r (repliedOn (tabled r peer (m .bar)) (appended r i j) i j peer m (appendActs r i))

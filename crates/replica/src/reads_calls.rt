@@ -3,7 +3,7 @@ ghost use mathlib.Core.Path.{_≡_};
 ghost use mathlib.Core.List.{[], _∷_};
 ghost use lib.ListN.{length};
 ghost use Rattle.actions.specs.Actions.{writeAt};
-ghost use Rattle.replica.specs.Quorumread.{openReadStep, readAct, repliedStep, readReplyStep};
+ghost use Rattle.replica.specs.Quorumread.{openReadStep, answerAct, repliedStep, readReplyStep};
 ghost use Rattle.replica.specs.Step.{Told};
 ghost use Rattle.replica.specs.ReadCalls.{AnswerFits, AnswersFit, Answers};
 use super::Handled;
@@ -21,7 +21,7 @@ use tally::open_reads::stays_open;
 // What a closed read says of the key at place i, as the room's i-th action.
 fn put_answer(room: &mut [u64], leader: u64, read: Read, i: usize)
     requires { ⌜ AnswerFits i (now room) ⌝ }
-    ensures { λ _. ⌜ now (room .exit) ≡ writeAt (now (room .entry)) i (readAct leader read i ∷ []) ⌝ }
+    ensures { λ _. ⌜ now (room .exit) ≡ writeAt (now (room .entry)) i (answerAct leader read i ∷ []) ⌝ }
 {
     let tally = read.tally;
     let known = tally.bests[i];

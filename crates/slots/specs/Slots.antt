@@ -29,9 +29,11 @@ executed = 4
 abbrev pub noVote : Vote
 noVote = record { ballot = 0; batch = emptyBatch }
 
+-- "leader_bk: None"; `newBook` is one that is present
 abbrev pub noLeaderBook : LeaderBook
 noLeaderBook = record { present = false; trigger = 0; endprep = 0; «prepare_acks» = 0; «prepare_max_bal» = 0; «accept_acks» = 0 }
 
+-- "replica_bk: None": whom a follower answers, where `noLeaderBook` is whom a leader heard
 abbrev pub noReplicaBook : ReplicaBook
 noReplicaBook = record { present = false; source = 0; trigger = 0; endprep = 0 }
 
@@ -48,7 +50,8 @@ nullSlot =
       «wal_offset» = 0;
     }
 
--- what an index past the end of an array of slots reads: its arrays are empty
+-- what an index past the end of an array of slots reads. No replica holds it: its lists of keys have no elements, where those of emptyBatch and
+-- nullSlot have eight zeros
 abbrev pub noBatch : Batch
 noBatch = record { id = 0; count = 0; keys = [] }
 

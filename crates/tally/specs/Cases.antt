@@ -12,7 +12,7 @@ use Rattle.tally.specs.declared.Read.{Read}
 use Rattle.tally.specs.declared.Reads.{Reads}
 use Rattle.tally.specs.declared.Replied.{Replied}
 use Rattle.tally.specs.Merge.{merge}
-use Rattle.tally.specs.Open.{newRead, findRead, openRead, withTally, withAck, stays, replaced, weighed, counted, replyTo}
+use Rattle.tally.specs.Open.{newRead, findRead, openRead, withTally, withAck, stays, replaced, quorumCloses, acknowledged, replyTo}
 
 module _ (rs : Reads) (id count : ℕ) (keys : List ℕ) where
   pub open-empty : count ≡ 0 → openRead rs id count keys ≡ record { answer = 10; reads = rs }
@@ -40,12 +40,12 @@ module _ (rs : Reads) (id count : ℕ) (keys : List ℕ) where
         open-one h = rw (ne-eqb count 0 some, le-ltb 8 count short, le-ltb (findRead rs id) (rs .count) free, lt-leb 16 (rs .count) h)
 
 module _ (quorum peer : ℕ) (r : Read) (m : Merged) (next : Read) (e : next ≡ withTally r (m .tally)) where
-  pub counted-not : (o : Replied) → (m .answer ≡ 0 → ⊥) → o ≡ stays (m .answer) next → o ≡ counted quorum peer r m
-  counted-not o h f = rw (ne-eqb (m .answer) 0 h, ← e) f
+  pub acknowledged-not : (o : Replied) → (m .answer ≡ 0 → ⊥) → o ≡ stays (m .answer) next → o ≡ acknowledged quorum peer r m
+  acknowledged-not o h f = rw (ne-eqb (m .answer) 0 h, ← e) f
 
-  pub counted-in : (o : Replied) (acked : Read) → m .answer ≡ 0 → acked ≡ withAck next peer → o ≡ weighed quorum acked → o ≡ counted quorum peer r m
-  counted-in o acked h f g =
-      rw (eq-eqb (m .answer) 0 h) (g ∙ ap (λ (x : Read). weighed quorum x) (f ∙ ap (λ (x : Read). withAck x peer) e))
+  pub acknowledged-in : (o : Replied) (acked : Read) → m .answer ≡ 0 → acked ≡ withAck next peer → o ≡ quorumCloses quorum acked → o ≡ acknowledged quorum peer r m
+  acknowledged-in o acked h f g =
+      rw (eq-eqb (m .answer) 0 h) (g ∙ ap (λ (x : Read). quorumCloses quorum x) (f ∙ ap (λ (x : Read). withAck x peer) e))
 
 module _ (quorum peer : ℕ) (reply : Tally) (r : Read) where
   pub reply-leader : (l : Bool) → l ≡ true → replyTo quorum peer l reply r ≡ replaced r reply
@@ -56,6 +56,6 @@ module _ (quorum peer : ℕ) (reply : Tally) (r : Read) where
   unfolding replyTo
   reply-again l h k = rw (h, k)
 
-  pub reply-new : (l : Bool) → l ≡ false → has (r .acks) peer ≡ false → replyTo quorum peer l reply r ≡ counted quorum peer r (merge (r .tally) reply)
+  pub reply-new : (l : Bool) → l ≡ false → has (r .acks) peer ≡ false → replyTo quorum peer l reply r ≡ acknowledged quorum peer r (merge (r .tally) reply)
   unfolding replyTo
   reply-new l h k = rw (h, k)

@@ -30,17 +30,17 @@ nullRead = newRead 0 0 []
 abbrev pub noReads : Reads
 noReads = record { count = 0; reads = replicate 16 nullRead }
 
--- what an index past the end of the table's array reads: its arrays are empty
+-- what an index past the end of the table's array reads: unlike nullRead's, its lists have no elements
 abbrev pub noRead : Read
 noRead = record { id = 0; acks = 0; keys = []; tally = record { count = 0; bests = [] } }
 
 -- the read at place i is another one
-abbrev pub otherAt : Reads → ℕ → ℕ → Bool
-otherAt rs id i = not (eqb (getD (rs .reads) i noRead .id) id)
+abbrev pub otherIdAt : Reads → ℕ → ℕ → Bool
+otherIdAt rs id i = not (eqb (getD (rs .reads) i noRead .id) id)
 
 -- the place of the open read with this id, or the count where there is none; of a count above 16 no place is in use
 unfoldable pub findRead : Reads → ℕ → ℕ
-findRead rs id = pick (ltb 16 (rs .count)) (rs .count) (scan (otherAt rs id) 0 (rs .count))
+findRead rs id = pick (ltb 16 (rs .count)) (rs .count) (scan (otherIdAt rs id) 0 (rs .count))
 
 abbrev pub isOpen : Reads → ℕ → Bool
 isOpen rs id = ltb (findRead rs id) (rs .count)
@@ -87,21 +87,21 @@ abbrev pub replaced : Read → Tally → Replied
 replaced r reply = record { answer = 0; closes = true; answers = smaller (r .tally .count) (reply .count); read = withTally r reply }
 
 -- "quorum answers", for every key of the read; fewer wait
-abbrev pub weighed : ℕ → Read → Replied
-weighed quorum r = pick (leb quorum (countIn (r .acks))) (record { answer = 0; closes = true; answers = r .tally .count; read = r }) (stays 0 r)
+abbrev pub quorumCloses : ℕ → Read → Replied
+quorumCloses quorum r = pick (leb quorum (countIn (r .acks))) (record { answer = 0; closes = true; answers = r .tally .count; read = r }) (stays 0 r)
 
 -- the merge is done: on a conflict "the sender is not acknowledged", else it is
-abbrev pub counted : ℕ → ℕ → Read → Merged → Replied
-counted quorum peer r m =
+abbrev pub acknowledged : ℕ → ℕ → Read → Merged → Replied
+acknowledged quorum peer r m =
     pick (not (eqb (m .answer) 0)) (stays (m .answer) (withTally r (m .tally)))
-    (weighed quorum (withAck (withTally r (m .tally)) peer))
+    (quorumCloses quorum (withAck (withTally r (m .tally)) peer))
 
 -- one reply to one open read; "A member already acknowledged is ignored."
 unfoldable pub replyTo : ℕ → ℕ → Bool → Tally → Read → Replied
 replyTo quorum peer fromLeader reply r =
     pick fromLeader (replaced r reply)
     (pick (has (r .acks) peer) (stays 0 r)
-    (counted quorum peer r (merge (r .tally) reply)))
+    (acknowledged quorum peer r (merge (r .tally) reply)))
 
 -- the read is kept as the reply leaves it: it is done (0), or a conflict (12): "All but 0 and 12 change nothing"
 abbrev pub staysOpen : ℕ → Bool

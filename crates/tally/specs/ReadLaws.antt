@@ -17,7 +17,7 @@ use Rattle.base.specs.Scan.{scan-high, scan-passed, scan-stopped}
 use Rattle.tally.specs.declared.Read.{Read}
 use Rattle.tally.specs.declared.Reads.{Reads}
 use Rattle.tally.specs.declared.Opened.{Opened}
-use Rattle.tally.specs.Open.{newRead, noRead, otherAt, findRead, openRead, closeRead, putRead, fitRead, fitReads}
+use Rattle.tally.specs.Open.{newRead, noRead, otherIdAt, findRead, openRead, closeRead, putRead, fitRead, fitReads}
 
 abbrev pub readAt : Reads → ℕ → Read
 readAt rs i = getD (rs .reads) i noRead
@@ -35,14 +35,14 @@ module _ (rs : Reads) (id : ℕ) where
   pub find-within : findRead rs id ≤ rs .count
   unfolding findRead
   find-within =
-      pick-both (λ (x : ℕ). x ≤ rs .count) (ltb 16 (rs .count)) (le-refl _) (scan-high (otherAt rs id) 0 (rs .count) (omega arith))
+      pick-both (λ (x : ℕ). x ≤ rs .count) (ltb 16 (rs .count)) (le-refl _) (scan-high (otherIdAt rs id) 0 (rs .count) (omega arith))
 
   -- below the count, the read there is the one asked for
   pub find-id : findRead rs id < rs .count → idAt rs (findRead rs id) ≡ id
   unfolding findRead
   find-id =
       pick-cases (λ (x : ℕ). x < rs .count → idAt rs x ≡ id) (ltb 16 (rs .count)) (λ t h. absurd (omega arith))
-      (λ t h. eqb-true _ _ (not-false _ (scan-stopped (otherAt rs id) 0 (rs .count) h)))
+      (λ t h. eqb-true _ _ (not-false _ (scan-stopped (otherIdAt rs id) 0 (rs .count) h)))
 
   -- at the count, no read has it
   pub find-absent : rs .count ≤ 16 → rs .count ≤ findRead rs id → (i : ℕ) → i < rs .count → idAt rs i ≡ id → ⊥
@@ -50,7 +50,7 @@ module _ (rs : Reads) (id : ℕ) where
   find-absent few =
       pick-cases (λ (x : ℕ). rs .count ≤ x → (i : ℕ) → i < rs .count → idAt rs i ≡ id → ⊥) (ltb 16 (rs .count))
       (λ t h i q. absurd (omega (arith, tests)))
-      (λ t h i q. eqb-false _ _ (not-true _ (scan-passed (otherAt rs id) 0 (rs .count) i (omega arith) (omega arith))))
+      (λ t h i q. eqb-false _ _ (not-true _ (scan-passed (otherIdAt rs id) 0 (rs .count) i (omega arith) (omega arith))))
 
 -- A READ OPENED
 

@@ -13,7 +13,7 @@ use Rattle.tally.specs.declared.Tally.{Tally}
 use Rattle.tally.specs.declared.MergedKey.{MergedKey}
 use Rattle.tally.specs.declared.MergedKey.the-variants.{Into, Conflict}
 use Rattle.tally.specs.declared.Reads.{Reads}
-use Rattle.tally.specs.Open.{noRead, otherAt, findRead}
+use Rattle.tally.specs.Open.{noRead, otherIdAt, findRead}
 use Rattle.tally.specs.Merge.{mergeKey, noBest, bestAt, agree, conflictAt, mergeAt, mergeUpTo, merge}
 
 module _ (held reply : Tally) where
@@ -73,7 +73,7 @@ module _ (held reply : Tally) where
 module _ (rs : Reads) (id : ℕ) where
   -- the search has come to place i, and no read before it has the id
   pub record Finding (i : ℕ) : Type 0 where
-    pub on : scan (otherAt rs id) i (rs .count) ≡ scan (otherAt rs id) 0 (rs .count)
+    pub on : scan (otherIdAt rs id) i (rs .count) ≡ scan (otherIdAt rs id) 0 (rs .count)
     pub within : i ≤ rs .count
 
   pub find-start : Finding 0
@@ -81,7 +81,7 @@ module _ (rs : Reads) (id : ℕ) where
 
   pub find-turn : (i : ℕ) → Finding i → i < rs .count → (getD (rs .reads) i noRead .id ≡ id → ⊥) → Finding (i + 1)
   find-turn i g h e =
-      record { on = sym (scan-on (otherAt rs id) i (rs .count) h (rw (ne-eqb (getD (rs .reads) i noRead .id) id e))) ∙ g .on; within = omega arith }
+      record { on = sym (scan-on (otherIdAt rs id) i (rs .count) h (rw (ne-eqb (getD (rs .reads) i noRead .id) id e))) ∙ g .on; within = omega arith }
 
   pub find-full : 16 < rs .count → rs .count ≡ findRead rs id
   unfolding findRead
@@ -92,10 +92,10 @@ module _ (rs : Reads) (id : ℕ) where
     unfolding findRead
     find-here h e =
         rw (le-ltb 16 (rs .count) few)
-        (sym (scan-stop (otherAt rs id) i (rs .count) h (rw (eq-eqb (getD (rs .reads) i noRead .id) id e))) ∙ g .on)
+        (sym (scan-stop (otherIdAt rs id) i (rs .count) h (rw (eq-eqb (getD (rs .reads) i noRead .id) id e))) ∙ g .on)
 
     pub find-none : rs .count ≤ i → rs .count ≡ findRead rs id
     unfolding findRead
     find-none h =
         let e : rs .count ≡ i = omega arith in
-        rw (le-ltb 16 (rs .count) few) (e ∙ (sym (scan-end (otherAt rs id) i (rs .count) h) ∙ g .on))
+        rw (le-ltb 16 (rs .count) few) (e ∙ (sym (scan-end (otherIdAt rs id) i (rs .count) h) ∙ g .on))

@@ -1,6 +1,6 @@
 // The table of open reads, and one reply to one of them (quorumread.rs, handle_msg_read_query_reply).
 ghost use mathlib.Core.Path.{_≡_};
-ghost use Rattle.tally.specs.Open.{nothingKnown, newRead, noReads, findRead, openRead, closeRead, putRead, fitRead, fitReads, withTally, withAck, smaller, stays, replaced, weighed, counted, replyTo, staysOpen};
+ghost use Rattle.tally.specs.Open.{nothingKnown, newRead, noReads, findRead, openRead, closeRead, putRead, fitRead, fitReads, withTally, withAck, smaller, stays, replaced, quorumCloses, acknowledged, replyTo, staysOpen};
 use crate::Best;
 use crate::KeyBest;
 use crate::Merged;
@@ -207,7 +207,7 @@ impl Read {
 
     // A quorum answers for every key, and fewer wait.
     fn weigh(self, quorum: u64) -> Replied
-        ensures { λ r. ⌜ r ≡ weighed quorum self ⌝ }
+        ensures { λ r. ⌜ r ≡ quorumCloses quorum self ⌝ }
     {
         let acknowledged = members::count(self.acks);
         if acknowledged < quorum {
@@ -224,7 +224,7 @@ impl Read {
 
     // The merge is done: the sender is acknowledged unless there was a conflict.
     fn acknowledge(self, quorum: u64, peer: u64, merged: Merged) -> Replied
-        ensures { λ r. ⌜ r ≡ counted quorum peer self merged ⌝ }
+        ensures { λ r. ⌜ r ≡ acknowledged quorum peer self merged ⌝ }
     {
         let tally = merged.tally;
         let read = self.with_tally(tally);

@@ -17,7 +17,7 @@ use Rattle.slots.specs.declared.Slot.{Slot}
 use Rattle.slots.specs.Slots.{nullSlot, newBook, redoneSlot, preparing, committed, executed, withState, withLeader, withExternal, enteredSlot, markedSlot, passedSlot, loggedSlot, countedSlot, acknowledgedSlot, committedSlot, appendedSlot}
 use Rattle.decide.specs.declared.Scalars.{Scalars}
 use Rattle.decide.specs.declared.Reply.{Reply}
-use Rattle.decide.specs.Scalars.{leads, followed, withBallots}
+use Rattle.decide.specs.Scalars.{leads, following, followed}
 use Rattle.decide.specs.Decide.{decideOffer}
 use Rattle.window.specs.declared.Window.{Window}
 use Rattle.window.specs.Window.{slotAt, putSlot, firstOpen}
@@ -151,9 +151,9 @@ pub trigger-same : (r : Replica) (m : Reply) → place (r .sc) (m .trigger) < r 
     → standing (triggerSlot r m) ≡ stands r (place (r .sc) (m .trigger))
 trigger-same r m l h f =
     let j : ℕ = place (r .sc) (m .trigger) in
-    let wide = appended-low r j (place (r .sc) (m .slot)) in
+    let wide = appended-low r (place (r .sc) (m .slot)) j in
     ap standing (sym (at-here (heardWindow r m) j (omega arith))) ∙ heard-same r m j
-    ∙ appended-cases (λ (x : Slot). standing x ≡ stands r j) r j (place (r .sc) (m .slot)) j (let u = reply-place r m f in omega arith) (λ z. absurd (omega arith)) refl
+    ∙ appended-cases (λ (x : Slot). standing x ≡ stands r j) r (place (r .sc) (m .slot)) j j (let u = reply-place r m f in omega arith) (λ z. absurd (omega arith)) refl
 
 module _ (r : Replica) (peer : ℕ) (m : Reply) (P A : ℕ → Type 0) (i : ℕ) (h : Whole (r .window)) (by : Answers r m → i ≡ place (r .sc) (m .trigger) → P peer) where
   abbrev sent : ℕ
@@ -164,11 +164,11 @@ module _ (r : Replica) (peer : ℕ) (m : Reply) (P A : ℕ → Type 0) (i : ℕ)
 
   wide : Answers r m → OfWindow (replyWindow r m)
   wide f =
-      appended-cases (λ (x : Slot). x .ballot ≡ sent → Backed r P A i sent (standing x)) r (place (r .sc) (m .trigger)) (place (r .sc) (m .slot)) i
+      appended-cases (λ (x : Slot). x .ballot ≡ sent → Backed r P A i sent (standing x)) r (place (r .sc) (m .slot)) (place (r .sc) (m .trigger)) i
       (let u = reply-place r m f in omega arith) (λ l b. starts r P A i sent _ refl refl) (λ b. stays r P A i _ refl (f .leading) b)
 
-  weighed-at : Answers r m → OfWindow (heardWindow r m)
-  weighed-at f = also r P A i sent _ _ (heard-same r m i) (wide f)
+  heard-at : Answers r m → OfWindow (heardWindow r m)
+  heard-at f = also r P A i sent _ _ (heard-same r m i) (wide f)
 
   counted-at : Answers r m → OfWindow (countedWindow r peer m)
   counted-at f =
@@ -176,14 +176,14 @@ module _ (r : Replica) (peer : ℕ) (m : Reply) (P A : ℕ → Type 0) (i : ℕ)
       (λ e l b.
       let same : standing (atPlace (heardWindow r m) i) ≡ standing (triggerSlot r m) =
       ap (λ (k : ℕ). standing (atPlace (heardWindow r m) k)) e ∙ ap standing (at-here (heardWindow r m) (place (r .sc) (m .trigger)) (omega arith)) in
-      counts r P A i sent (standing (triggerSlot r m)) (also r P A i sent _ _ (sym same) (weighed-at f) b) peer refl (by f e))
-      (λ out b. weighed-at f b)
+      counts r P A i sent (standing (triggerSlot r m)) (also r P A i sent _ _ (sym same) (heard-at f) b) peer refl (by f e))
+      (λ out b. heard-at f b)
 
   reply-backed : ReplyWays (backed r P A i) r peer m
   reply-backed =
       record {
         passed = λ f t l b. wide f b;
-        weighed = λ f t l b. weighed-at f b;
+        heard = λ f t l b. heard-at f b;
         counted = λ f t l b. counted-at f b;
         entered = λ f t q l b. also r P A i sent _ _ (entered-same r peer m i) (counted-at f) b;
       }
@@ -194,7 +194,7 @@ pub follows-none : (r : Replica) (peer ballot : ℕ) → Good (r .sc) (r .window
     → leads (followed (r .sc) peer ballot) ≡ true → ⊥
 follows-none r peer ballot g p o s =
     pick-cases (λ (x : Scalars). leads x ≡ true → ⊥) (ltb (r .sc .«bal_max_seen») ballot)
-    {a = withBallots (r .sc) peer (r .sc .«bal_prep_sent») (r .sc .«bal_prepared») ballot}
+    {a = following (r .sc) peer ballot}
     {b = r .sc}
     (λ t e. p .other (eqb-true peer (r .sc .id) e))
     (λ t e.

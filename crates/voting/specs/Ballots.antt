@@ -55,7 +55,7 @@ step-up-ballot r room c = go c
     go (callPrepare peer trigger ballot) = prepareStep-ways (of (sentAnew r)) r room peer trigger ballot (λ a l. same) (λ f. follows-sent (r .sc) peer ballot)
     go (callPrepareReply peer m) =
         prepare-reply-way (sentAnew r) r room peer m (λ a l u. same)
-        (λ f. record { passed = λ f t. same; weighed = λ f t. same; counted = λ f t. same; entered = λ f t q. same })
+        (λ f. record { passed = λ f t. same; heard = λ f t. same; counted = λ f t. same; entered = λ f t q. same })
     go (callAccept peer slot ballot b) = acceptStep-ways (of (sentAnew r)) r room peer slot ballot b (λ a l. same) (λ f. follows-sent (r .sc) peer ballot)
     go (callAcceptReply peer slot ballot) = acceptReplyStep-ways (of (sentAnew r)) r room peer slot ballot (λ a l. same) (λ f q. same) (λ f q. same)
     go (callCommitNotice peer ballot bar) = commitNoticeStep-ways (of (sentAnew r)) r room peer ballot bar (λ a l. same) (λ f. same)
@@ -68,7 +68,7 @@ step-up-ballot r room c = go c
         logged-way (sentAnew r) r d room (λ a l u. same)
         (λ f. record {
           only = λ u. same;
-          own = λ e o. record { passed = λ f t. same; weighed = λ f t. same; counted = λ f t. same; entered = λ f t q. same };
+          own = λ e o. record { passed = λ f t. same; heard = λ f t. same; counted = λ f t. same; entered = λ f t q. same };
           promised = λ e n. same;
           acked = λ e. same;
           commits = λ e a q. same;

@@ -19,7 +19,7 @@ use Rattle.laws.specs.WaysAdded.{openReadStep-ways, readReplyStep-ways}
 
 -- who is who, who leads, and the three ballots
 abbrev pub core : Scalars → Scalars
-core sc = withNumbers sc 0 0 0 0 0
+core sc = withNumbers sc (record { «accept_bar» = 0; «commit_bar» = 0; «exec_bar» = 0; «wal_offset» = 0; «peer_accept_max» = 0 })
 
 abbrev pub Claim : Type 1
 Claim = ℕ → Scalars → Window → List Act → Type 0

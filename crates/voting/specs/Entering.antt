@@ -71,7 +71,7 @@ module _ (r : Replica) (peer : ℕ) (m : Reply) (h : Whole (r .window)) (n : r .
       → (x : Act) → x ≡ act (Accept (proposal (number (r .sc) i) (m .ballot) (slotAt (countedWindow r peer m) i .batch))) (slotAt (countedWindow r peer m) i .batch .keys)
       → Entered r (m .ballot) (enteredWindow r peer m) x
   enters-at f i lo hi s x e =
-      let u = appended-most r (place (r .sc) (m .trigger)) (place (r .sc) (m .slot)) 64 n (reply-place r m f) in
+      let u = appended-most r (place (r .sc) (m .slot)) (place (r .sc) (m .trigger)) 64 n (reply-place r m f) in
       let z : atPlace (enteredWindow r peer m) i ≡ withState (slotAt (countedWindow r peer m) i) (slotAt (countedWindow r peer m) i .ballot) accepting =
       sweep-at (λ k v. enteredSlot v) (place (r .sc) (m .trigger)) (countedWindow r peer m .len) (countedWindow r peer m) i (let z = counted-long r peer m in omega arith) lo hi hi
       ∙ ap enteredSlot (at-here (countedWindow r peer m) i hi)
@@ -100,7 +100,7 @@ module _ (r : Replica) (peer : ℕ) (m : Reply) (h : Whole (r .window)) (n : r .
   reply-enters =
       record {
         passed = λ f t x o k. appends (replyWindow r m) x o k;
-        weighed = λ f w x o k. appends (heardWindow r m) x o k;
+        heard = λ f w x o k. appends (heardWindow r m) x o k;
         counted = λ f w x o k. appends (countedWindow r peer m) x o k;
         entered = λ f w q x o k. both f x k (List·Memᴰ·append-cases (replyActs r m) o);
       }

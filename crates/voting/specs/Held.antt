@@ -17,7 +17,7 @@ use Rattle.slots.specs.declared.Slot.{Slot}
 use Rattle.slots.specs.Slots.{preparedSlot, enteredSlot, markedSlot, passedSlot, loggedSlot, adoptedSlot}
 use Rattle.decide.specs.declared.Scalars.{Scalars}
 use Rattle.decide.specs.declared.Reply.{Reply}
-use Rattle.decide.specs.Scalars.{leads, followed, withBallots}
+use Rattle.decide.specs.Scalars.{leads, following, followed}
 use Rattle.decide.specs.Decide.{decideOffer, awaitsPrepare}
 use Rattle.window.specs.declared.Window.{Window}
 use Rattle.window.specs.Window.{slotAt, putSlot}
@@ -88,7 +88,7 @@ held-weighed m x = go (m .voted && ltb (heldBy x .ballot) (m .vote .ballot))
 module _ (r : Replica) (peer : ℕ) (m : Reply) (s : ℕ) (h : Whole (r .window)) (n : r .window .len ≤ 64) (l : r .sc .start ≤ s) where
   wide-held : Answers r m → (i : ℕ) → heldBy (atPlace (replyWindow r m) i) ≡ heldBy (atPlace (r .window) i)
   wide-held f i =
-      appended-cases (λ (x : Slot). heldBy x ≡ heldBy (atPlace (r .window) i)) r (place (r .sc) (m .trigger)) (place (r .sc) (m .slot)) i (let u = reply-place r m f in omega arith)
+      appended-cases (λ (x : Slot). heldBy x ≡ heldBy (atPlace (r .window) i)) r (place (r .sc) (m .slot)) (place (r .sc) (m .trigger)) i (let u = reply-place r m f in omega arith)
       (λ l. ap heldBy (sym (at-past (r .window) i l))) refl
 
   arrives-here : Answers r m → Heard r peer m → m .slot ≡ s → arrives r m s ≡ true
@@ -103,11 +103,11 @@ module _ (r : Replica) (peer : ℕ) (m : Reply) (s : ℕ) (h : Whole (r .window)
           ∙ sym (ap (best (heldAt r s)) (brings-none r m s 0 (λ z a. d (a .slot))))
       go (inl e) =
           let i : ℕ = place (r .sc) (m .slot) in
-          let k = appended-has r (place (r .sc) (m .trigger)) i in
-          let u = appended-most r (place (r .sc) (m .trigger)) i 64 n (reply-place r m f) in
+          let k = appended-has r i (place (r .sc) (m .trigger)) in
+          let u = appended-most r i (place (r .sc) (m .trigger)) 64 n (reply-place r m f) in
           let there : heldBy (replySlot r m) ≡ heldAt r s = ap heldBy (sym (at-here (replyWindow r m) i k)) ∙ wide-held f i ∙ ap (λ (x : ℕ). heldAt r x) e in
           ap (λ (x : ℕ). heldBy (atPlace (heardWindow r m) (place (r .sc) x))) (sym e)
-          ∙ ap heldBy (put-at (replyWindow r m) i (heardSlot (replySlot r m) m) k (let z = appended-long r (place (r .sc) (m .trigger)) i in omega arith))
+          ∙ ap heldBy (put-at (replyWindow r m) i (heardSlot (replySlot r m) m) k (let z = appended-long r i (place (r .sc) (m .trigger)) in omega arith))
           ∙ held-weighed m (replySlot r m)
           ∙ ap (λ (x : Vote). pick (m .voted && ltb (x .ballot) (m .vote .ballot)) (m .vote) x) there
           ∙ weigh-best (m .voted) (heldAt r s) (m .vote)
@@ -120,7 +120,7 @@ module _ (r : Replica) (peer : ℕ) (m : Reply) (s : ℕ) (h : Whole (r .window)
   reply-hears =
       record {
         passed = λ f t. wide-held f (place (r .sc) s) ∙ sym (ap (best (heldAt r s)) (brings-none r m s 0 (λ z a. clash (a .waits) t)));
-        weighed = λ f w. weighed-held f w;
+        heard = λ f w. weighed-held f w;
         counted = λ f w. counted-held f w;
         entered = λ f w q.
             sweep-keeps heldBy (λ k x. enteredSlot x) (λ k x. entered-keeps heldBy (λ s n. refl) x) (place (r .sc) (m .trigger)) (countedWindow r peer m .len) (countedWindow r peer m) (place (r .sc) s) ∙ counted-held f w;
@@ -141,7 +141,7 @@ no-accept : (r : Replica) (peer slot ballot : ℕ) (b : Batch) → Good (r .sc) 
     → leads (core (followed (r .sc) peer ballot)) ≡ true → ⊥
 no-accept r peer slot ballot b g l f =
     pick-cases (λ (x : Scalars). leads (core x) ≡ true → ⊥) (ltb (r .sc .«bal_max_seen») ballot)
-    {a = withBallots (r .sc) peer (r .sc .«bal_prep_sent») (r .sc .«bal_prepared») ballot}
+    {a = following (r .sc) peer ballot}
     {b = r .sc}
     (λ t e. f .peer-is .other (eqb-true peer (r .sc .id) e))
     (λ t e.

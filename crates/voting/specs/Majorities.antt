@@ -79,8 +79,8 @@ module _ (r : Replica) (peer : ℕ) (m : Reply) (h : Whole (r .window)) (n : r .
   counted-set : Answers r m → standing (atPlace (enteredWindow r peer m) j) .prepare ≡ insert (stands r j .prepare) peer
   counted-set f =
       let low : j < r .window .len = (let x = f .low in let y = f .logged in omega arith) in
-      let wide = appended-low r j (place (r .sc) (m .slot)) in
-      let most = appended-most r j (place (r .sc) (m .slot)) 64 n (reply-place r m f) in
+      let wide = appended-low r (place (r .sc) (m .slot)) j in
+      let most = appended-most r (place (r .sc) (m .slot)) j 64 n (reply-place r m f) in
       let long = heard-long r peer m in
       ap (λ (x : Standing). x .prepare) (entered-same r peer m j)
       ∙ ap (λ (x : Slot). x .leader .«prepare_acks») (put-at (heardWindow r m) j _ (omega arith) (omega arith))
@@ -99,7 +99,7 @@ module _ (r : Replica) (peer : ℕ) (m : Reply) (h : Whole (r .window)) (n : r .
   reply-majority =
       record {
         passed = λ f t x o k. appends-none x o k;
-        weighed = λ f t x o k. appends-none x o k;
+        heard = λ f t x o k. appends-none x o k;
         counted = λ f t x o k. appends-none x o k;
         entered = λ f t q x o k. record { leading = f .leading; sent = sym (f .sent); majority = full-majority f q };
       }

@@ -69,7 +69,7 @@ seen-never-falls r room c = go c
     go (callPrepare peer trigger ballot) = prepareStep-ways (of (seesNoLess r)) r room peer trigger ballot (λ a l. same) (λ f. follows (r .sc) peer ballot)
     go (callPrepareReply peer m) =
         prepare-reply-way (seesNoLess r) r room peer m (λ a l u. same)
-        (λ f. record { passed = λ f t. same; weighed = λ f t. same; counted = λ f t. same; entered = λ f t q. same })
+        (λ f. record { passed = λ f t. same; heard = λ f t. same; counted = λ f t. same; entered = λ f t q. same })
     go (callAccept peer slot ballot b) = acceptStep-ways (of (seesNoLess r)) r room peer slot ballot b (λ a l. same) (λ f. follows (r .sc) peer ballot)
     go (callAcceptReply peer slot ballot) = acceptReplyStep-ways (of (seesNoLess r)) r room peer slot ballot (λ a l. same) (λ f q. same) (λ f q. same)
     go (callCommitNotice peer ballot bar) = commitNoticeStep-ways (of (seesNoLess r)) r room peer ballot bar (λ a l. same) (λ f. same)
@@ -78,7 +78,7 @@ seen-never-falls r room c = go c
         logged-way (seesNoLess r) r d room (λ a l u. same)
         (λ f. record {
           only = λ u. same;
-          own = λ e o. record { passed = λ f t. same; weighed = λ f t. same; counted = λ f t. same; entered = λ f t q. same };
+          own = λ e o. record { passed = λ f t. same; heard = λ f t. same; counted = λ f t. same; entered = λ f t q. same };
           promised = λ e n. same;
           acked = λ e. same;
           commits = λ e a q. same;

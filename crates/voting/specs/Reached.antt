@@ -20,7 +20,7 @@ use Rattle.slots.specs.declared.Slot.{Slot}
 use Rattle.slots.specs.Slots.{newBook, redoneSlot, preparedSlot, enteredSlot, markedSlot, passedSlot, loggedSlot, committed, executed, nullSlot}
 use Rattle.decide.specs.declared.Scalars.{Scalars}
 use Rattle.decide.specs.declared.Reply.{Reply}
-use Rattle.decide.specs.Scalars.{leads, isPeer, followed, withBallots, steppedUp, mayBe}
+use Rattle.decide.specs.Scalars.{leads, isPeer, following, followed, steppedUp, mayBe}
 use Rattle.decide.specs.Decide.{decideOffer}
 use Rattle.window.specs.declared.Window.{Window}
 use Rattle.window.specs.Window.{slotAt, putSlot, sweep, grown, noSlots, firstOpen}
@@ -74,7 +74,7 @@ follow : (sc : Scalars) (w v : Window) (peer ballot : ℕ) → Good sc w → Pee
     → ((i : ℕ) → atPlace v i .ballot ≤ ballot) → Good (core (followed sc peer ballot)) v
 follow sc w v peer ballot g p l h k =
     pick-cases (λ (x : Scalars). Good (core x) v) (ltb (sc .«bal_max_seen») ballot)
-    {a = withBallots sc peer (sc .«bal_prep_sent») (sc .«bal_prepared») ballot}
+    {a = following sc peer ballot}
     {b = sc}
     (λ t.
     let u = ltb-true (sc .«bal_max_seen») ballot t in
@@ -100,7 +100,7 @@ ballot-of s = s .ballot
 module _ (r : Replica) (peer : ℕ) (m : Reply) (g : Good (r .sc) (r .window)) where
   wide-low : Answers r m → (i : ℕ) → atPlace (replyWindow r m) i .ballot ≤ r .sc .«bal_max_seen»
   wide-low f i =
-      appended-cases (λ (x : Slot). x .ballot ≤ r .sc .«bal_max_seen») r (place (r .sc) (m .trigger)) (place (r .sc) (m .slot)) i
+      appended-cases (λ (x : Slot). x .ballot ≤ r .sc .«bal_max_seen») r (place (r .sc) (m .slot)) (place (r .sc) (m .trigger)) i
       (let u = reply-place r m f in let z = g .whole in omega arith) (λ l. g .sent) (g .slots i)
 
   weighed-same : (i : ℕ) → atPlace (heardWindow r m) i .ballot ≡ atPlace (replyWindow r m) i .ballot
@@ -117,8 +117,8 @@ module _ (r : Replica) (peer : ℕ) (m : Reply) (g : Good (r .sc) (r .window)) w
   reply-good : ReplyWays good r peer m
   reply-good =
       record {
-        passed = λ f t. re (r .sc) (r .window) (replyWindow r m) g (appended-long r (place (r .sc) (m .trigger)) (place (r .sc) (m .slot)) ∙ g .whole) (wide-low f);
-        weighed = λ f t. re (r .sc) (r .window) (heardWindow r m) g (heard-long r peer m ∙ g .whole) (λ i. omega (arith, weighed-same i, wide-low f i));
+        passed = λ f t. re (r .sc) (r .window) (replyWindow r m) g (appended-long r (place (r .sc) (m .slot)) (place (r .sc) (m .trigger)) ∙ g .whole) (wide-low f);
+        heard = λ f t. re (r .sc) (r .window) (heardWindow r m) g (heard-long r peer m ∙ g .whole) (λ i. omega (arith, weighed-same i, wide-low f i));
         counted = λ f t. re (r .sc) (r .window) (countedWindow r peer m) g (counted-long r peer m ∙ g .whole) (λ i. omega (arith, counted-same i, wide-low f i));
         entered = λ f t q.
             record {

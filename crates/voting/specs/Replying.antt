@@ -34,11 +34,11 @@ entersActs r peer m =
 abbrev pub replyActs : Replica → Reply → List Act
 replyActs r m = appendActs r (place (r .sc) (m .slot))
 
--- what is claimed of the four ways of acting: the slot does not wait for it; it is weighed; its sender is counted; a majority is counted, and the slots enter Accept
+-- what is claimed of the four ways of acting: the slot does not wait for it; it is heard; its sender is counted; a majority is counted, and the slots enter Accept
 module _ (P : Claim) (r : Replica) (peer : ℕ) (m : Reply) where
   pub record ReplyWays : Type 0 where
     pub passed : Answers r m → awaitsPrepare (replySlot r m) (m .ballot) ≡ false → P 0 (core (r .sc)) (replyWindow r m) (replyActs r m)
-    pub weighed : Answers r m → Heard r peer m → P 0 (core (r .sc)) (heardWindow r m) (replyActs r m)
+    pub heard : Answers r m → Heard r peer m → P 0 (core (r .sc)) (heardWindow r m) (replyActs r m)
     pub counted : Answers r m → Heard r peer m → P 0 (core (r .sc)) (countedWindow r peer m) (replyActs r m)
     pub entered : Answers r m → Heard r peer m → isFull r peer m ≡ true
         → P 0 (core (withPrepared (r .sc) (m .ballot))) (enteredWindow r peer m) (replyActs r m ++ entersActs r peer m)
@@ -48,7 +48,7 @@ module _ (P : Claim) (r : Replica) (peer : ℕ) (m : Reply) where
       → KeepsFor (Unheard r m) Q r → ReplyWays → Q (replyOn r peer m)
   unfolding of
   reply-way Q on k h =
-      replyOn-ways Q r peer m k (λ f t. on _ _ (tabled (h .passed f t))) (λ f t e. on _ _ (tabled (h .weighed f t))) (λ f t e q. on _ _ (tabled (h .counted f t)))
+      replyOn-ways Q r peer m k (λ f t. on _ _ (tabled (h .passed f t))) (λ f t e. on _ _ (tabled (h .heard f t))) (λ f t e q. on _ _ (tabled (h .counted f t)))
       (λ f t e q b. on _ _
       (fallen-ways
       (λ (x : Scalars). P 0 (core (withPrepared x (m .ballot))) (enteredWindow r peer m)
@@ -69,7 +69,7 @@ pub map-reply : (P Q : Claim) (r : Replica) (peer : ℕ) (m : Reply) → ((a : �
 map-reply P Q r peer m f h =
     record {
       passed = λ x t. f _ _ _ _ (h .passed x t);
-      weighed = λ x t. f _ _ _ _ (h .weighed x t);
+      heard = λ x t. f _ _ _ _ (h .heard x t);
       counted = λ x t. f _ _ _ _ (h .counted x t);
       entered = λ x t q. f _ _ _ _ (h .entered x t q);
     }

@@ -128,7 +128,7 @@ module _ (r : Replica) (c : Call) (q : Replica) (peer : ℕ) (m : Reply) (seen :
   reply-says =
       record {
         passed = λ f t. appends-ok;
-        weighed = λ f t. appends-ok;
+        heard = λ f t. appends-ok;
         counted = λ f t. appends-ok;
         entered = λ f t e.
             all-append (ok r c) (replyActs q m) (entersActs q peer m) appends-ok

@@ -94,7 +94,7 @@ redone-vote ballot trigger endprep s =
 module _ (w : Window) (r : Replica) (peer : ℕ) (m : Reply) (h : Whole (r .window)) (e : (i : ℕ) → atPlace (r .window) i .vote ≡ atPlace w i .vote) where
   wide : Answers r m → (i : ℕ) → atPlace (replyWindow r m) i .vote ≡ atPlace w i .vote
   wide f i =
-      appended-cases (λ (x : Slot). x .vote ≡ atPlace w i .vote) r (place (r .sc) (m .trigger)) (place (r .sc) (m .slot)) i (let u = reply-place r m f in omega arith)
+      appended-cases (λ (x : Slot). x .vote ≡ atPlace w i .vote) r (place (r .sc) (m .slot)) (place (r .sc) (m .trigger)) i (let u = reply-place r m f in omega arith)
       (λ l. ap vote (sym (at-past (r .window) i l)) ∙ e i) (e i)
 
   weigh : Answers r m → (i : ℕ) → atPlace (heardWindow r m) i .vote ≡ atPlace w i .vote
@@ -107,7 +107,7 @@ module _ (w : Window) (r : Replica) (peer : ℕ) (m : Reply) (h : Whole (r .wind
   reply-votes =
       record {
         passed = λ f t. wide f;
-        weighed = λ f t. weigh f;
+        heard = λ f t. weigh f;
         counted = λ f t. count-up f;
         entered = λ f t q i.
             sweep-keeps vote (λ k s. enteredSlot s) (λ k s. entered-keeps vote (λ s n. refl) s) (place (r .sc) (m .trigger)) (countedWindow r peer m .len) (countedWindow r peer m) i ∙ count-up f i;

@@ -17,7 +17,7 @@ use Rattle.window.specs.declared.Window.{Window}
 use Rattle.window.specs.Window.{slotAt, putSlot, filled, grown, sweep}
 use Rattle.window.specs.Places.{size, put-here, put-other, filled-low, filled-has, filled-most, filled-old, filled-new, sweep-in, sweep-before, sweep-after, sweep-each}
 
--- the slot at a place; null where the log does not reach
+-- the slot at a place; null where the log does not reach, where `slotAt` reads whatever stands in the array
 unfoldable pub atPlace : Window → ℕ → Slot
 atPlace w i = pick (ltb i (w .len)) (slotAt w i) nullSlot
 

@@ -22,7 +22,7 @@ putSlot w i s = record { len = w .len; slots = set (w .slots) i s }
 unfoldable pub filled : Slot → Window → ℕ → Window
 filled z w n = pick (leb n (w .len)) w (record { len = n; slots = over (λ i s. z) noSlot (w .len) n (w .slots) })
 
--- "filling in null instances if needed"
+-- "filling in null instances if needed": filled with null slots, where a PrepareReply fills with slots in Preparing
 abbrev pub grown : Window → ℕ → Window
 grown w n = filled nullSlot w n
 

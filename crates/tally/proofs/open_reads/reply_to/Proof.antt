@@ -1,6 +1,6 @@
 use mathlib.Core.Path.{sym, ap, _∙_}
 use Rattle.tally.specs.declared.Merged.{Merged}
-use Rattle.tally.specs.Open.{counted}
+use Rattle.tally.specs.Open.{acknowledged}
 use Rattle.tally.specs.Cases.{reply-leader, reply-again, reply-new}
 use borrow.Author.Needs.{needs}
 use Rattle.tally.proofs.open_reads.reply_to.Statement.{statement}
@@ -34,7 +34,7 @@ acknowledge-requires c κs = search needs
 returns-3 : tie.Need-returns-3
 returns-3 c =
     let a = c .before .before .before .before .before .before .args in
-    c .acknowledge .ensures ∙ (ap (λ (m : Merged). counted (a .quorum) (a .peer) (a .read) m) (c .before .merge .ensures)
+    c .acknowledge .ensures ∙ (ap (λ (m : Merged). acknowledged (a .quorum) (a .peer) (a .read) m) (c .before .merge .ensures)
     ∙ sym (reply-new (a .quorum) (a .peer) (a .reply) (a .read) _ (c .before .before .before .before .before .if1 .left) (sym (c .before .before .before .before .contains .ensures) ∙ c .before .before .before .if2 .left)))
 
 pub reply-to-spec : {M : Type 1} → statement M
