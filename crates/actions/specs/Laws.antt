@@ -11,7 +11,7 @@ use lib.ListN.{length, getD, set, take, drop, length-append, length-drop, take-a
 use lib.Seq.{take-at, drop-at, length-take-le, drop-append-add, drop-drop, take-all, paste, paste-suc}
 use borrow.Author.Tests.{le-leb, lt-leb, lt-ltb, le-ltb, leb-false, ltb-false}
 use Rattle.base.specs.Gather.{gather, gather-self, gather-more}
-use Rattle.base.specs.Pick.{pick-cases, or-false}
+use Rattle.base.specs.Pick.{coincide, pick-cases, or-false}
 use Rattle.actions.specs.declared.Action.{Action}
 use Rattle.actions.specs.declared.Action.the-variants.{PrepareBal, AcceptData, CommitSlot, Prepare, PrepareReply, Accept, AcceptReply, CommitNotice, Heartbeat, StatusUp, StatusDown, Execute, ReadAnswer}
 use Rattle.actions.specs.declared.Says.{Says}
@@ -127,6 +127,10 @@ puts-in room k (a ∷ rest) h l =
     puts-in (putAct room k a) (k + 1) rest (omega arith) (omega (arith, length-put room k a))
     ∙ ap (λ (x : List ℕ). writeAt x (k + 1) rest) (put-in room k a (omega arith) l)
     ∙ write-append room k (a ∷ []) rest (k + 1) (omega arith) refl
+
+-- any two outcomes that the promise allows coincide
+pub said-unique : {room after after′ : List ℕ} {k n n′ : ℕ} {acts : List Act} → Said room k acts n after → Said room k acts n′ after′ → (n ≡ n′) × (after ≡ after′)
+said-unique s t = (coincide (s .placed) (t .placed), coincide (s .written) (t .written))
 
 -- what a call on one slot says, where two actions have room
 pub say-in : (room : List ℕ) (k : ℕ) (acts : List Act) → k + 2 ≤ 192 → 3456 ≤ length room → sayActs room k acts ≡ writeAt room k acts

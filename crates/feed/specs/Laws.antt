@@ -8,6 +8,7 @@ use native.Mathlib.Nat.{zero-add, add-comm}
 use lib.ListN.{length, length-drop, getD, set, drop}
 use lib.Seq.{paste, paste-suc, drop-paste, getD-drop}
 use borrow.Author.Tests.{le-leb, lt-leb}
+use Rattle.base.specs.Pick.{coincide}
 use Rattle.feed.specs.Feed.{fronted, Fronted}
 
 module _ (bytes : List ℕ) (n : ℕ) where
@@ -18,6 +19,10 @@ module _ (bytes : List ℕ) (n : ℕ) where
   pub fronts-all : (r i : ℕ) (after : List ℕ) → n ≤ length bytes → r ≡ n % 256 → i ≡ r → after ≡ paste bytes 0 (drop (n - n % 256) bytes) i → Fronted bytes n r after
   unfolding fronted
   fronts-all r i after h e f g = let k = le-leb n (length bytes) h in record { count = rw k e; moved = rw k (g ∙ ap (paste bytes 0 (drop (n - n % 256) bytes)) (f ∙ e)) }
+
+-- any two outcomes that the promise allows coincide
+pub fronted-unique : {bytes after after′ : List ℕ} {n r r′ : ℕ} → Fronted bytes n r after → Fronted bytes n r′ after′ → (r ≡ r′) × (after ≡ after′)
+fronted-unique s t = (coincide (s .count) (t .count), coincide (s .moved) (t .moved))
 
 -- a byte moved: from `from + i` to i, where the first i are moved
 pub front-turn : (bytes b : List ℕ) (from i : ℕ) → from + i < length bytes → b ≡ paste bytes 0 (drop from bytes) i

@@ -6,6 +6,7 @@ use native.Mathlib.Omega.{arith}
 use native.Mathlib.Numerals.{add-one}
 use lib.ListN.{length, length-append, getD}
 use borrow.Author.Tests.{le-leb, lt-leb}
+use Rattle.base.specs.Pick.{coincide}
 use Rattle.base.specs.Gather.{gather, gather-more}
 use Rattle.words.specs.Put.{Written}
 use Rattle.words.specs.PutLaws.{written-then, written-fits, put-fits, next-fits, put-none}
@@ -82,7 +83,16 @@ module _ (text : List ℕ) (at : ℕ) (row : List ℕ) where
       let f : at + length (rowText row) ≤ length text = omega (arith, length-row row) in
       record { place = rw e (w .place ∙ next-fits text at (rowText row) f); bytes = rw e (w .bytes ∙ put-fits text at (rowText row) f) }
 
+-- any two outcomes that the promise allows coincide
+pub rowed-unique : {text row after after′ : List ℕ} {at r r′ : ℕ} → Rowed text at row r after → Rowed text at row r′ after′ → (r ≡ r′) × (after ≡ after′)
+rowed-unique s t = (coincide (s .place) (t .place), coincide (s .bytes) (t .bytes))
+
 -- ── a run ──
+
+-- any two outcomes that the promise allows coincide
+pub shows-unique : {p : Page} {r r′ : Run} {room room′ text text′ : List ℕ} → Shows p r room text → Shows p r′ room′ text′
+    → (r ≡ r′) × ((room ≡ room′) × (text ≡ text′))
+shows-unique s t = (coincide (s .ran) (t .ran), coincide (s .said) (t .said), coincide (s .printed) (t .printed))
 
 pub shows-at : (p : Page) (bytes : List ℕ) (at : ℕ) (h : Handled) (room text line : List ℕ) (n place : ℕ)
     → Told (playedAt (p .run .replica) (length (p .room)) bytes at) h (p .room) room → n ≡ (p .run .number + 1) % 2 ^ 64 → line ≡ lineOf n h

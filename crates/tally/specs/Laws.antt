@@ -1,15 +1,15 @@
 -- What a merge and a reply promise of each key, of the answer and of the read, beyond their definitions.
 use mathlib.Core.Path.{_≡_, refl, ap}
-use mathlib.Core.Bool.{Bool, true, false, not, _&&_, _||_}
+use mathlib.Core.Bool.{Bool, true, false, not, _&&_}
 use mathlib.Core.List.{[], _∷_, List·Memᴰ·head, List·Memᴰ·tail}
-use mathlib.Core.Logic.{_⊎_, ⊎-elim}
+use mathlib.Core.Logic.{⊎-elim}
 use Prim.Native.Nat.{ℕ, suc, _≤_, _<_}
 use native.Mathlib.Nat.{le-refl}
 use native.Mathlib.Omega.{arith}
 use lib.ListN.{length, List·getD-eq-default}
 use lib.Dec.{ltb, leb, eqb}
 use borrow.Author.Tests.{ltb-true, ltb-false, eqb-true, eqb-false, not-true, not-false}
-use Rattle.base.specs.Pick.{larger, pick-both, pick-cases, decide, clash, or-false, larger-left, tests}
+use Rattle.base.specs.Pick.{coincide, larger, pick-both, pick-cases, decide, clash, larger-left, tests}
 use Rattle.base.specs.Among.{_∈_}
 use Rattle.base.specs.Over.{length-over, over-at, over-after}
 use Rattle.base.specs.Scan.{scan-high, scan-passed, scan-stopped}
@@ -94,37 +94,40 @@ module _ (held reply : Tally) where
   conflict-within : conflictAt held reply ≤ held .count
   conflict-within = scan-high (agree held reply) 0 (held .count) (omega arith)
 
-  -- a merge is one of four: two refusals, a conflict, or all keys merged
-  pub merge-cases : (P : Merged → Type 0) → P (record { answer = 1; tally = held }) → P (record { answer = 6; tally = held })
+  -- a merge is one of five: three refusals, a conflict, or all keys merged
+  pub merge-cases : (P : Merged → Type 0) → P (record { answer = 1; tally = held }) → P (record { answer = 10; tally = held })
+      → P (record { answer = 6; tally = held })
       → (held .count ≡ reply .count → held .count ≤ 8 → conflictAt held reply < held .count
       → P (record { answer = mergedAnswer Conflict; tally = mergeUpTo held reply (conflictAt held reply) }))
       → (held .count ≡ reply .count → held .count ≤ 8 → conflictAt held reply ≡ held .count
       → P (record { answer = 0; tally = mergeUpTo held reply (conflictAt held reply) }))
       → P (merge held reply)
   unfolding merge
-  merge-cases P one six stop done =
-      pick-cases P (ltb 8 (held .count) || ltb 8 (reply .count)) (λ a. one)
-      (λ a. pick-cases P (not (eqb (held .count) (reply .count))) (λ b. six)
-      (λ b.
-      let even : held .count ≡ reply .count = eqb-true _ _ (not-false _ b) in
-      let few : held .count ≤ 8 = ltb-false _ _ (or-false _ _ a .0) in
+  merge-cases P one ten six stop done =
+      pick-cases P (ltb 8 (held .count)) (λ a. one)
+      (λ a. pick-cases P (ltb 8 (reply .count)) (λ b. ten)
+      (λ b. pick-cases P (not (eqb (held .count) (reply .count))) (λ c. six)
+      (λ c.
+      let even : held .count ≡ reply .count = eqb-true _ _ (not-false _ c) in
+      let few : held .count ≤ 8 = ltb-false _ _ a in
       pick-cases (λ (x : ℕ). P (record { answer = x; tally = mergeUpTo held reply (conflictAt held reply) })) (ltb (conflictAt held reply) (held .count))
       (λ d. stop even few (ltb-true _ _ d))
-      (λ d. done even few (omega (arith, tests, conflict-within)))))
+      (λ d. done even few (omega (arith, tests, conflict-within))))))
 
-  pub merge-answers : merge held reply .answer ∈ (0 ∷ 1 ∷ 6 ∷ 12 ∷ [])
+  pub merge-answers : merge held reply .answer ∈ (0 ∷ 1 ∷ 6 ∷ 10 ∷ 12 ∷ [])
   merge-answers =
-      merge-cases (λ (m : Merged). m .answer ∈ (0 ∷ 1 ∷ 6 ∷ 12 ∷ [])) (List·Memᴰ·tail (List·Memᴰ·head refl))
+      merge-cases (λ (m : Merged). m .answer ∈ (0 ∷ 1 ∷ 6 ∷ 10 ∷ 12 ∷ [])) (List·Memᴰ·tail (List·Memᴰ·head refl))
+      (List·Memᴰ·tail (List·Memᴰ·tail (List·Memᴰ·tail (List·Memᴰ·head refl))))
       (List·Memᴰ·tail (List·Memᴰ·tail (List·Memᴰ·head refl)))
-      (λ e f h. List·Memᴰ·tail (List·Memᴰ·tail (List·Memᴰ·tail (List·Memᴰ·head refl))))
+      (λ e f h. List·Memᴰ·tail (List·Memᴰ·tail (List·Memᴰ·tail (List·Memᴰ·tail (List·Memᴰ·head refl)))))
       (λ e f h. List·Memᴰ·head refl)
 
   pub merge-count : merge held reply .tally .count ≡ held .count
-  merge-count = merge-cases (λ (m : Merged). m .tally .count ≡ held .count) refl refl (λ e f h. refl) (λ e f h. refl)
+  merge-count = merge-cases (λ (m : Merged). m .tally .count ≡ held .count) refl refl refl (λ e f h. refl) (λ e f h. refl)
 
   pub merge-length : length (merge held reply .tally .bests) ≡ length (held .bests)
   merge-length =
-      merge-cases (λ (m : Merged). length (m .tally .bests) ≡ length (held .bests)) refl refl
+      merge-cases (λ (m : Merged). length (m .tally .bests) ≡ length (held .bests)) refl refl refl
       (λ e f h. length-over (mergeAt reply) noBest 0 (conflictAt held reply) (held .bests))
       (λ e f h. length-over (mergeAt reply) noBest 0 (conflictAt held reply) (held .bests))
 
@@ -144,7 +147,7 @@ module _ (held reply : Tally) where
   -- whatever the answer, nothing known of a key is lost, and no slot falls
   pub merge-rises : (i : ℕ) → level (bestAt held i) ≤ level (bestAt (merge held reply .tally) i)
   merge-rises i =
-      merge-cases (λ (m : Merged). level (bestAt held i) ≤ level (bestAt (m .tally) i)) (le-refl _) (le-refl _)
+      merge-cases (λ (m : Merged). level (bestAt held i) ≤ level (bestAt (m .tally) i)) (le-refl _) (le-refl _) (le-refl _)
       (λ e f h. rises-to (conflictAt held reply) i) (λ e f h. rises-to (conflictAt held reply) i)
 
   -- answer 0: the lists are as long, no key conflicts, and each is merged
@@ -171,7 +174,8 @@ module _ (held reply : Tally) where
 
   pub merge-joined : merge held reply .answer ≡ 0 → Joined (merge held reply .tally)
   merge-joined =
-      merge-cases (λ (m : Merged). m .answer ≡ 0 → Joined (m .tally)) (λ z. absurd (omega arith)) (λ z. absurd (omega arith)) (λ e f h z. absurd (omega arith))
+      merge-cases (λ (m : Merged). m .answer ≡ 0 → Joined (m .tally)) (λ z. absurd (omega arith)) (λ z. absurd (omega arith)) (λ z. absurd (omega arith))
+      (λ e f h z. absurd (omega arith))
       (λ e f h z.
       record {
         even = e;
@@ -182,7 +186,7 @@ module _ (held reply : Tally) where
 
   pub merge-stopped : merge held reply .answer ≡ mergedAnswer Conflict → Stopped (merge held reply .tally)
   merge-stopped =
-      merge-cases (λ (m : Merged). m .answer ≡ 12 → Stopped (m .tally)) (λ z. absurd (omega arith)) (λ z. absurd (omega arith))
+      merge-cases (λ (m : Merged). m .answer ≡ 12 → Stopped (m .tally)) (λ z. absurd (omega arith)) (λ z. absurd (omega arith)) (λ z. absurd (omega arith))
       (λ e f h z.
       record {
         at = conflictAt held reply;
@@ -193,12 +197,16 @@ module _ (held reply : Tally) where
       })
       (λ e f h z. absurd (omega arith))
 
-  -- answers 1 and 6 change nothing
-  pub merge-refused : (merge held reply .answer ≡ 1) ⊎ (merge held reply .answer ≡ 6) → merge held reply .tally ≡ held
+  -- "All but 0 and 12 change nothing"
+  pub merge-refused : (merge held reply .answer ≡ 0 → ⊥) → (merge held reply .answer ≡ mergedAnswer Conflict → ⊥) → merge held reply .tally ≡ held
   merge-refused =
-      merge-cases (λ (m : Merged). (m .answer ≡ 1) ⊎ (m .answer ≡ 6) → m .tally ≡ held) (λ z. refl) (λ z. refl)
-      (λ e f h. ⊎-elim (λ z. absurd (omega arith)) (λ z. absurd (omega arith)))
-      (λ e f h. ⊎-elim (λ z. absurd (omega arith)) (λ z. absurd (omega arith)))
+      merge-cases (λ (m : Merged). (m .answer ≡ 0 → ⊥) → (m .answer ≡ 12 → ⊥) → m .tally ≡ held) (λ z w. refl) (λ z w. refl) (λ z w. refl)
+      (λ e f h z w. absurd (w refl)) (λ e f h z w. absurd (z refl))
+
+  -- any two outcomes that `merge_into`'s promise allows coincide
+  pub merged-unique : {answer answer′ : ℕ} {after after′ : Tally} → (answer ≡ merge held reply .answer) × (after ≡ merge held reply .tally)
+      → (answer′ ≡ merge held reply .answer) × (after′ ≡ merge held reply .tally) → (answer ≡ answer′) × (after ≡ after′)
+  merged-unique s t = (coincide (s .0) (t .0), coincide (s .1) (t .1))
 
 -- A READ
 
@@ -222,9 +230,9 @@ module _ (quorum peer : ℕ) (leads : Bool) (reply : Tally) (r : Read) where
       (pick-cases P (not (eqb (merge (r .tally) reply .answer) 0)) (λ d. undone (eqb-false _ _ (not-true _ d)))
       (λ d. pick-both P (leb quorum (countIn (insert (r .acks) peer))) closes waits)))
 
-  pub reply-answers : replyTo quorum peer leads reply r .answer ∈ (0 ∷ 1 ∷ 6 ∷ 12 ∷ [])
+  pub reply-answers : replyTo quorum peer leads reply r .answer ∈ (0 ∷ 1 ∷ 6 ∷ 10 ∷ 12 ∷ [])
   reply-answers =
-      reply-cases (λ (o : Replied). o .answer ∈ (0 ∷ 1 ∷ 6 ∷ 12 ∷ [])) (List·Memᴰ·head refl) (List·Memᴰ·head refl)
+      reply-cases (λ (o : Replied). o .answer ∈ (0 ∷ 1 ∷ 6 ∷ 10 ∷ 12 ∷ [])) (List·Memᴰ·head refl) (List·Memᴰ·head refl)
       (λ h. merge-answers (r .tally) reply) (List·Memᴰ·head refl) (List·Memᴰ·head refl)
 
   -- id and keys stay, whatever the answer
@@ -241,16 +249,12 @@ module _ (quorum peer : ℕ) (leads : Bool) (reply : Tally) (r : Read) where
       reply-cases (λ (o : Replied). o .answer ≡ 12 → o ≡ stays 12 (withTally r (merge (r .tally) reply .tally)))
       (λ z. absurd (omega arith)) (λ z. absurd (omega arith)) (λ h z. rw z) (λ z. absurd (omega arith)) (λ z. absurd (omega arith))
 
-  -- answers 1 and 6 change nothing, and the read stays open
-  pub reply-refused : (replyTo quorum peer leads reply r .answer ≡ 1) ⊎ (replyTo quorum peer leads reply r .answer ≡ 6)
+  -- all but 0 and 12 change nothing, and the read stays open
+  pub reply-refused : (replyTo quorum peer leads reply r .answer ≡ 0 → ⊥) → (replyTo quorum peer leads reply r .answer ≡ mergedAnswer Conflict → ⊥)
       → replyTo quorum peer leads reply r ≡ stays (replyTo quorum peer leads reply r .answer) r
   reply-refused =
-      reply-cases (λ (o : Replied). (o .answer ≡ 1) ⊎ (o .answer ≡ 6) → o ≡ stays (o .answer) r)
-      (⊎-elim (λ z. absurd (omega arith)) (λ z. absurd (omega arith)))
-      (⊎-elim (λ z. absurd (omega arith)) (λ z. absurd (omega arith)))
-      (λ h z. rw (merge-refused (r .tally) reply z))
-      (⊎-elim (λ z. absurd (omega arith)) (λ z. absurd (omega arith)))
-      (⊎-elim (λ z. absurd (omega arith)) (λ z. absurd (omega arith)))
+      reply-cases (λ (o : Replied). (o .answer ≡ 0 → ⊥) → (o .answer ≡ 12 → ⊥) → o ≡ stays (o .answer) r)
+      (λ z w. absurd (z refl)) (λ z w. absurd (z refl)) (λ h z w. rw (merge-refused (r .tally) reply z w)) (λ z w. absurd (z refl)) (λ z w. absurd (z refl))
 
   -- no more keys are answered than the read has
   pub reply-few : replyTo quorum peer leads reply r .answers ≤ r .tally .count

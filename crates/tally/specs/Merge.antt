@@ -1,5 +1,5 @@
 -- Merging a reply. 01: "For each key, the best answer is nothing, a slot alone, or a slot with a value. Merging a reply:"
-use mathlib.Core.Bool.{Bool, true, false, not, _&&_, _||_}
+use mathlib.Core.Bool.{Bool, true, false, not, _&&_}
 use Prim.Native.Nat.{ℕ}
 use lib.Dec.{ltb, leb, eqb}
 use lib.ListN.{getD}
@@ -80,12 +80,14 @@ mergeAt reply i held = record { best = mergedBest (held .best) (mergeKey (held .
 abbrev pub mergeUpTo : Tally → Tally → ℕ → Tally
 mergeUpTo held reply n = record { count = held .count; bests = over (mergeAt reply) noBest 0 n (held .bests) }
 
--- a count above 8 is 1, "unequal lengths are 6"; "On conflict: answer 12, merges for earlier keys stay"
+-- 1: a tally held with a count above 8; 10: a reply's "list .. outside the above"; "unequal lengths are 6"; "On conflict: answer 12, merges for
+-- earlier keys stay"
 unfoldable pub merge : Tally → Tally → Merged
 merge held reply =
-    pick (ltb 8 (held .count) || ltb 8 (reply .count)) (record { answer = 1; tally = held })
+    pick (ltb 8 (held .count)) (record { answer = 1; tally = held })
+    (pick (ltb 8 (reply .count)) (record { answer = 10; tally = held })
     (pick (not (eqb (held .count) (reply .count))) (record { answer = 6; tally = held })
-    (record { answer = pick (ltb (conflictAt held reply) (held .count)) (mergedAnswer Conflict) 0; tally = mergeUpTo held reply (conflictAt held reply) }))
+    (record { answer = pick (ltb (conflictAt held reply) (held .count)) (mergedAnswer Conflict) 0; tally = mergeUpTo held reply (conflictAt held reply) })))
 
 -- "quorum answers: nothing = not found (tag 0), slot alone = retry naming the leader (1), value = the value (2)"
 abbrev pub answerOf : ℕ → Best → ReadAnswer

@@ -46,7 +46,7 @@ module _ (held reply : Tally) where
   refuse-held h = rw (lt-ltb 8 (held .count) h)
 
   module _ (few : held .count ≤ 8) where
-    pub refuse-reply : 8 < reply .count → merge held reply ≡ record { answer = 1; tally = held }
+    pub refuse-reply : 8 < reply .count → merge held reply ≡ record { answer = 10; tally = held }
     unfolding merge
     refuse-reply h = rw (le-ltb 8 (held .count) few, lt-ltb 8 (reply .count) h)
 

@@ -35,7 +35,7 @@ pub enum MergedKey {
     Conflict,
 }
 
-// A reply merged into a tally: answer 0, 1, 6 or 12.
+// A reply merged into a tally: answer 0, 1, 6, 10 or 12.
 pub struct Merged {
     pub answer: u64,
     pub tally: Tally,

@@ -81,7 +81,7 @@ pub fn merge(mut held: Tally, reply: Tally) -> Merged
     }
     if 8 < reply.count {
         return Merged {
-            answer: 1,
+            answer: 10,
             tally: held,
         };
     }

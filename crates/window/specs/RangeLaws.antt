@@ -9,7 +9,7 @@ use native.Mathlib.Omega.{arith}
 use lib.Dec.{leb}
 use lib.ListN.{length}
 use borrow.Author.Tests.{le-leb, lt-leb, leb-true}
-use Rattle.base.specs.Pick.{pick, and-both, decide, tests}
+use Rattle.base.specs.Pick.{coincide, pick, and-both, decide, tests}
 use Rattle.base.specs.Gather.{gather, gather-none}
 use Rattle.actions.specs.Actions.{Act, writeAt}
 use Rattle.actions.specs.Laws.{write-none}
@@ -70,6 +70,15 @@ module _ (f : ℕ → Slot → Slot) (g : ℕ → Slot → List Act) (from to k 
   module _ (p : Placed) (after : List ℕ) where
     pub swept-all : ranged from to k (length room) start ≡ true → Swept f g from to k w room p after → SweptIn f g from to k start w room p after
     swept-all e s = record { handed = rw (e, ← s .next, ← s .window); few = s .few; written = rw e (s .written) }
+
+-- any two outcomes that the promise allows coincide, of a sweep and of promises
+pub swept-unique : {f : ℕ → Slot → Slot} {g : ℕ → Slot → List Act} {from to k start : ℕ} {w : Window} {room after after′ : List ℕ} {p p′ : Placed}
+    → SweptIn f g from to k start w room p after → SweptIn f g from to k start w room p′ after′ → (p ≡ p′) × (after ≡ after′)
+swept-unique s t = (coincide (s .handed) (t .handed), coincide (s .written) (t .written))
+
+pub promised-unique : {from to k start ballot n n′ : ℕ} {room after after′ : List ℕ} → PromisesIn from to k start ballot room n after
+    → PromisesIn from to k start ballot room n′ after′ → (n ≡ n′) × (after ≡ after′)
+promised-unique s t = (coincide (s .next) (t .next), coincide (s .written) (t .written))
 
 -- what a caller knows whose range is one of the window's
 pub swept-in : {f : ℕ → Slot → Slot} {g : ℕ → Slot → List Act} {from to k start : ℕ} {w : Window} {room : List ℕ} {p : Placed} {after : List ℕ}

@@ -8,7 +8,7 @@ use lib.Dec.{leb}
 use lib.ListN.{length, getD, set, take, drop, length-append, length-drop, take-append-drop}
 use lib.Seq.{length-take-le, take-at, drop-at, drop-append-add, drop-append-le, take-append-le, take-append-seam, take-set-le, set-split, append-snoc, drop-drop, getD-take, getD-drop, sets-eq}
 use borrow.Author.Tests.{le-leb, lt-leb}
-use Rattle.base.specs.Pick.{pick-cases, tests}
+use Rattle.base.specs.Pick.{coincide, pick-cases, tests}
 use Rattle.words.specs.Put.{putAt, put, next, Written}
 use Rattle.words.specs.Little.{part}
 
@@ -37,6 +37,10 @@ module _ (l : List ℕ) (at : ℕ) (vs : List ℕ) where
 
   pub written-past : length l < at + length vs → Written l at vs at l
   written-past h = record { place = sym (next-past h); bytes = sym (put-past h) }
+
+-- any two outcomes that the promise allows coincide
+pub written-unique : {l vs after after′ : List ℕ} {at r r′ : ℕ} → Written l at vs r after → Written l at vs r′ after′ → (r ≡ r′) × (after ≡ after′)
+written-unique s t = (coincide (s .place) (t .place), coincide (s .bytes) (t .bytes))
 
 -- ── lengths ──
 
