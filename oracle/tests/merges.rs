@@ -11,9 +11,17 @@ use oracle::merges::{merges_of, tell_merges};
 use oracle::record::{RECORD_BYTES, Record};
 use oracle::stats::Stats;
 
+/// The last lines of the program's output, by 01: counts over 8, which no trace can name.
+const OVERLONG: &[u8] = include_bytes!("../samples/merges.overlong");
+
 fn stored(name: &str) -> Vec<u8> {
     let program = Path::new(env!("CARGO_MANIFEST_DIR")).join("../crates/merges");
     read(program.join(name))
+}
+
+/// The lines of the stored trace.
+fn stored_lines() -> Vec<u8> {
+    stored("stdout").strip_suffix(OVERLONG).expect("the lines of counts over 8").to_vec()
 }
 
 fn read(path: PathBuf) -> Vec<u8> {
@@ -32,7 +40,7 @@ fn the_programs_files_are_what_the_oracle_makes() {
     let mut trace = Vec::new();
     merges_of(&*read(sample), &mut trace).expect("a trace");
     assert!(trace == stored("stdin"), "crates/merges/stdin is stale: oracle/make-samples");
-    assert!(told(&trace) == stored("stdout"), "crates/merges/stdout is stale: oracle/make-samples");
+    assert!(told(&trace) == stored_lines(), "crates/merges/stdout is stale: oracle/make-samples");
 }
 
 #[test]
@@ -58,7 +66,7 @@ fn keys_of(line: &str) -> Vec<[u64; 3]> {
 
 #[test]
 fn every_pair_of_the_three_cases_is_merged() {
-    let (trace, lines) = (stored("stdin"), String::from_utf8(stored("stdout")).expect("ASCII"));
+    let (trace, lines) = (stored("stdin"), String::from_utf8(stored_lines()).expect("ASCII"));
     let mut lines = lines.lines();
     let mut pairs = BTreeSet::new();
     let mut held: Vec<[u64; 3]> = Vec::new();

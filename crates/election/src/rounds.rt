@@ -21,7 +21,7 @@ fn commits(s: Seat, room: &mut [u64], first: u64, second: u64) -> Seat {
 
 impl Group {
     // Member 0 tells its commit bar at once.
-    pub fn new() -> Group {
+    pub(crate) fn new() -> Group {
         let a = Seat::new(0, 1);
         let b = Seat::new(1, 0);
         let c = Seat::new(2, 0);
@@ -29,7 +29,7 @@ impl Group {
     }
 
     // A timeout at member 0, and its Prepare at the others.
-    pub fn step_up(self, room: &mut [u64]) -> Group {
+    pub(crate) fn step_up(self, room: &mut [u64]) -> Group {
         let a = self.a;
         let b = self.b;
         let c = self.c;
@@ -40,7 +40,7 @@ impl Group {
     }
 
     // The same entry is finished at all three.
-    pub fn logged(self, room: &mut [u64], entry: Entry, slot: u64, size: u64) -> Group {
+    pub(crate) fn logged(self, room: &mut [u64], entry: Entry, slot: u64, size: u64) -> Group {
         let a = self.a;
         let b = self.b;
         let c = self.c;
@@ -51,7 +51,7 @@ impl Group {
     }
 
     // Both PrepareReplies; with its own entry the first makes the quorum.
-    pub fn promised(self, room: &mut [u64]) -> Group {
+    pub(crate) fn promised(self, room: &mut [u64]) -> Group {
         let a = self.a;
         let b = self.b;
         let c = self.c;
@@ -60,7 +60,7 @@ impl Group {
         of(a2, b, c)
     }
 
-    pub fn offer(self, room: &mut [u64], batch: Batch) -> Group {
+    pub(crate) fn offer(self, room: &mut [u64], batch: Batch) -> Group {
         let a = self.a;
         let b = self.b;
         let c = self.c;
@@ -68,7 +68,7 @@ impl Group {
         of(a1, b, c)
     }
 
-    pub fn accept(self, room: &mut [u64], slot: u64, batch: Batch) -> Group {
+    pub(crate) fn accept(self, room: &mut [u64], slot: u64, batch: Batch) -> Group {
         let a = self.a;
         let b = self.b;
         let c = self.c;
@@ -78,7 +78,7 @@ impl Group {
     }
 
     // Both AcceptReplies; with its own entry the first commits.
-    pub fn accepted(self, room: &mut [u64], slot: u64, first: u64, second: u64) -> Group {
+    pub(crate) fn accepted(self, room: &mut [u64], slot: u64, first: u64, second: u64) -> Group {
         let a = self.a;
         let b = self.b;
         let c = self.c;
@@ -88,7 +88,7 @@ impl Group {
     }
 
     // Member 0 finishes its commit.
-    pub fn committed(self, room: &mut [u64], slot: u64, size: u64) -> Group {
+    pub(crate) fn committed(self, room: &mut [u64], slot: u64, size: u64) -> Group {
         let a = self.a;
         let b = self.b;
         let c = self.c;
@@ -96,7 +96,7 @@ impl Group {
         of(a1, b, c)
     }
 
-    pub fn notice(self, room: &mut [u64], bar: u64) -> Group {
+    pub(crate) fn notice(self, room: &mut [u64], bar: u64) -> Group {
         let a = self.a;
         let b = self.b;
         let c = self.c;
@@ -106,7 +106,7 @@ impl Group {
     }
 
     // The others finish the commits of both slots, member 2 in the other order.
-    pub fn followed(self, room: &mut [u64]) -> Group {
+    pub(crate) fn followed(self, room: &mut [u64]) -> Group {
         let a = self.a;
         let b = self.b;
         let c = self.c;
@@ -115,7 +115,7 @@ impl Group {
         of(a, b1, c1)
     }
 
-    pub fn executed(self, room: &mut [u64], slot: u64) -> Group {
+    pub(crate) fn executed(self, room: &mut [u64], slot: u64) -> Group {
         let a = self.a;
         let b = self.b;
         let c = self.c;
@@ -126,7 +126,7 @@ impl Group {
     }
 
     // A PrepareReply that comes late, a Prepare from self, and one for a slot past the window.
-    pub fn late(self, room: &mut [u64]) -> Group {
+    pub(crate) fn late(self, room: &mut [u64]) -> Group {
         let a = self.a;
         let b = self.b;
         let c = self.c;

@@ -1,15 +1,15 @@
 // Lines of numbers on standard output.
 
-pub fn first(n: u64) {
+pub(crate) fn first(n: u64) {
     io::print_decimal(libc::STDOUT_FILENO, n);
 }
 
-pub fn number(n: u64) {
+pub(crate) fn number(n: u64) {
     io::write_all(libc::STDOUT_FILENO, b" ");
     io::print_decimal(libc::STDOUT_FILENO, n);
 }
 
-pub fn end() {
+pub(crate) fn end() {
     io::write_all(libc::STDOUT_FILENO, b"\n");
 }
 
@@ -29,7 +29,7 @@ fn action(room: &[u64], k: usize) {
     end();
 }
 
-pub fn actions(room: &[u64], count: usize) {
+pub(crate) fn actions(room: &[u64], count: usize) {
     for k in 0..count {
         action(room, k);
     }

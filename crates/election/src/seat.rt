@@ -31,7 +31,7 @@ fn line(id: u64, turn: u64, answer: u64, count: usize, r: Replica) {
 
 impl Seat {
     // A member of a group of three that starts at 0.
-    pub fn new(id: u64, options: u64) -> Seat {
+    pub(crate) fn new(id: u64, options: u64) -> Seat {
         let made = Replica::new(id, 3, 0, options);
         let r = made.replica;
         line(id, 1, made.answer, 0, r);
@@ -54,20 +54,20 @@ impl Seat {
         }
     }
 
-    pub fn timeout(self, room: &mut [u64], source: u64) -> Seat {
+    pub(crate) fn timeout(self, room: &mut [u64], source: u64) -> Seat {
         let r = self.replica;
         let h = r.timeout(room, source);
         self.after(room, h)
     }
 
-    pub fn prepare(self, room: &mut [u64], peer: u64, trigger: u64, ballot: u64) -> Seat {
+    pub(crate) fn prepare(self, room: &mut [u64], peer: u64, trigger: u64, ballot: u64) -> Seat {
         let r = self.replica;
         let h = r.prepare(room, peer, trigger, ballot);
         self.after(room, h)
     }
 
     // A reply for the only slot that was asked for, without a vote.
-    pub fn promised(self, room: &mut [u64], peer: u64, slot: u64, ballot: u64) -> Seat {
+    pub(crate) fn promised(self, room: &mut [u64], peer: u64, slot: u64, ballot: u64) -> Seat {
         let none = empty_batch();
         let vote = Vote {
             ballot: 0,
@@ -87,25 +87,32 @@ impl Seat {
         self.after(room, h)
     }
 
-    pub fn accept(self, room: &mut [u64], peer: u64, slot: u64, ballot: u64, b: Batch) -> Seat {
+    pub(crate) fn accept(
+        self,
+        room: &mut [u64],
+        peer: u64,
+        slot: u64,
+        ballot: u64,
+        b: Batch,
+    ) -> Seat {
         let r = self.replica;
         let h = r.accept(room, peer, slot, ballot, b);
         self.after(room, h)
     }
 
-    pub fn accepted(self, room: &mut [u64], peer: u64, slot: u64, ballot: u64) -> Seat {
+    pub(crate) fn accepted(self, room: &mut [u64], peer: u64, slot: u64, ballot: u64) -> Seat {
         let r = self.replica;
         let h = r.accept_reply(room, peer, slot, ballot);
         self.after(room, h)
     }
 
-    pub fn notice(self, room: &mut [u64], peer: u64, ballot: u64, bar: u64) -> Seat {
+    pub(crate) fn notice(self, room: &mut [u64], peer: u64, ballot: u64, bar: u64) -> Seat {
         let r = self.replica;
         let h = r.commit_notice(room, peer, ballot, bar);
         self.after(room, h)
     }
 
-    pub fn logged(self, room: &mut [u64], entry: Entry, slot: u64, size: u64) -> Seat {
+    pub(crate) fn logged(self, room: &mut [u64], entry: Entry, slot: u64, size: u64) -> Seat {
         let done = Done {
             entry: entry,
             slot: slot,
@@ -116,13 +123,13 @@ impl Seat {
         self.after(room, h)
     }
 
-    pub fn offer(self, room: &mut [u64], b: Batch) -> Seat {
+    pub(crate) fn offer(self, room: &mut [u64], b: Batch) -> Seat {
         let r = self.replica;
         let h = r.offer(room, b);
         self.after(room, h)
     }
 
-    pub fn executed(self, room: &mut [u64], slot: u64) -> Seat {
+    pub(crate) fn executed(self, room: &mut [u64], slot: u64) -> Seat {
         let r = self.replica;
         let h = r.executed(room, slot);
         self.after(room, h)

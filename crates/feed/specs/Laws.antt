@@ -1,15 +1,69 @@
--- The laws of moving bytes to the front.
-use mathlib.Core.Path.{_≡_, sym, _∙_, ap}
+-- The laws of a read behind bytes that stay, and of moving bytes to the front.
+use mathlib.Core.Path.{_≡_, refl, sym, _∙_, ap}
+use mathlib.Core.Bool.{true, false}
 use mathlib.Core.List.{List}
+use mathlib.Core.Logic.{⊎-elim}
 use Prim.Native.Nat.{ℕ, suc, _+_, _-_, _%_, _≤_, _<_}
 use native.Mathlib.Omega.{arith}
 use native.Mathlib.Numerals.{add-one}
-use native.Mathlib.Nat.{zero-add, add-comm}
-use lib.ListN.{length, length-drop, getD, set, drop}
+use native.Mathlib.Nat.{zero-add, add-comm, le-refl}
+use lib.Dec.{eqb}
+use lib.ListN.{length, length-drop, getD, set, take, drop}
 use lib.Seq.{paste, paste-suc, drop-paste, getD-drop}
-use borrow.Author.Tests.{le-leb, lt-leb}
-use Rattle.base.specs.Pick.{coincide}
-use Rattle.feed.specs.Feed.{fronted, Fronted}
+use borrow.Author.Tests.{le-leb, lt-leb, eq-eqb, ne-eqb}
+use borrow.Rule.Slice.PartMut.{putMid, take-put}
+use Rattle.base.specs.Pick.{coincide, clash, same?}
+use Rattle.feed.specs.Feed.{ReadBehind, fronted, Fronted}
+
+module _ (bytes : List ℕ) (have : ℕ) where
+  pub read-none : length bytes < have → ReadBehind bytes have (record { have = 0; ended = true; failed = false }) bytes
+  read-none h =
+      record {
+        front = refl;
+        long = refl;
+        most = omega arith;
+        least = λ l. absurd (omega arith);
+        ends = λ l. absurd (omega arith);
+        fails = λ e. absurd (clash e refl);
+        refused = λ l. (refl, refl);
+      }
+
+  -- the bytes with others in the place of those behind the first `have`
+  abbrev pub behind : List ℕ → List ℕ
+  behind others = putMid have (length bytes - have) bytes others
+
+  -- a read that fails, and one that brings so many bytes
+  module _ (others : List ℕ) (h : have ≤ length bytes) (long : length (behind others) ≡ length bytes) where
+    front : take have (behind others) ≡ take have bytes
+    front = take-put have (length bytes - have) bytes others h
+
+    pub read-failed : ReadBehind bytes have (record { have = have; ended = true; failed = true }) (behind others)
+    read-failed =
+        record {
+          front = front;
+          long = long;
+          most = omega arith;
+          least = λ l. le-refl have;
+          ends = λ l. sym (eq-eqb have have refl);
+          fails = λ e. refl;
+          refused = λ l. absurd (omega arith);
+        }
+
+    pub read-came : (more : ℕ) → have + more ≤ length bytes → ReadBehind bytes have (record { have = have + more; ended = eqb more 0; failed = false }) (behind others)
+    read-came more m =
+        record {
+          front = front;
+          long = long;
+          most = omega arith;
+          least = λ l. omega arith;
+          ends =
+              λ l.
+              ⊎-elim (λ (z : more ≡ 0). eq-eqb more 0 z ∙ sym (eq-eqb (have + more) have (omega arith)))
+              (λ (z : more ≡ 0 → ⊥). ne-eqb more 0 z ∙ sym (ne-eqb (have + more) have (λ e. z (omega arith))))
+              (same? more 0);
+          fails = λ e. absurd (clash e refl);
+          refused = λ l. absurd (omega arith);
+        }
 
 module _ (bytes : List ℕ) (n : ℕ) where
   pub fronts-none : length bytes < n → Fronted bytes n 0 bytes

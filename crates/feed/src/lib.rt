@@ -1,7 +1,9 @@
 // A trace as it comes in on standard input, and text as it goes out: what is read is added to the bytes of a record begun.
-ghost use Prim.Native.Nat.{_≤_};
+ghost use Prim.Native.Nat.{_<_};
+ghost use mathlib.Core.Bool.{false};
+ghost use mathlib.Core.Path.{_≡_};
 ghost use lib.ListN.{length};
-ghost use Rattle.feed.specs.Feed.{Fronted};
+ghost use Rattle.feed.specs.Feed.{ReadBehind, Fronted};
 use libc::STDERR_FILENO;
 use libc::STDIN_FILENO;
 use libc::STDOUT_FILENO;
@@ -15,7 +17,7 @@ pub struct Input {
 
 // Reads once, behind the first `have` bytes. Where the read fails, standard error says so.
 pub fn read_more(bytes: &mut [u8], have: usize) -> Input
-    ensures { λ r. ⌜ r .have ≤ length (now (bytes .exit)) ⌝ }
+    ensures { λ r. ⌜ ReadBehind (now (bytes .entry)) have r (now (bytes .exit)) ⌝ }
 {
     if bytes.len() < have {
         return Input {
@@ -58,7 +60,9 @@ pub fn keep_rest(bytes: &mut [u8], n: usize) -> usize
 }
 
 // Writes the first n bytes of a text to standard output. Where that fails, standard error says so.
-pub fn write_text(text: &[u8], n: usize) -> bool {
+pub fn write_text(text: &[u8], n: usize) -> bool
+    ensures { λ r. ⌜ (length (now (text .entry)) < n → r ≡ false) ⌝ }
+{
     if text.len() < n {
         return false;
     }

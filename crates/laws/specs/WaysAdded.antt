@@ -19,8 +19,9 @@ use Rattle.tally.specs.declared.Merged.{Merged}
 use Rattle.tally.specs.declared.Read.{Read}
 use Rattle.tally.specs.declared.Opened.{Opened}
 use Rattle.tally.specs.declared.Replied.{Replied}
-use Rattle.tally.specs.Merge.{conflictAt, mergeUpTo, merge}
+use Rattle.tally.specs.Merge.{conflictAt, mergeUpTo}
 use Rattle.tally.specs.Open.{newRead, noRead, findRead, isOpen, openRead, closeRead, putRead, withTally, withAck, smaller, acknowledged, replyTo}
+use Rattle.tally.specs.Laws.{merge-cases}
 use Rattle.actions.specs.Actions.{saysActs}
 use Rattle.slots.specs.Slots.{executedSlot}
 use Rattle.decide.specs.declared.Decided.{Decided}
@@ -112,16 +113,6 @@ openReadStep-ways P r n id count keys k on =
     (record { fits = ready-fit r n (not-false _ a); some-keys = eqb-false _ _ (e .0); few = ltb-false _ _ (e .1); fresh = d .1; room = leb-false _ _ c }))))
 
 -- ── a reply to a read ──
-pub merge-ways : (P : Merged → Type 0) (held reply : Tally) → P (record { answer = 1; tally = held }) → P (record { answer = 6; tally = held })
-    → ((n : ℕ) → P (record { answer = 12; tally = mergeUpTo held reply n })) → ((n : ℕ) → P (record { answer = 0; tally = mergeUpTo held reply n }))
-    → P (merge held reply)
-unfolding merge
-merge-ways P held reply one six conflict all =
-    pick-cases P (ltb 8 (held .count) || ltb 8 (reply .count)) (λ a. one)
-    (λ a. pick-cases P (not (eqb (held .count) (reply .count))) (λ b. six)
-    (λ b. pick-cases (λ (x : ℕ). P (record { answer = x; tally = mergeUpTo held reply (conflictAt held reply) })) (ltb (conflictAt held reply) (held .count))
-    (λ c. conflict (conflictAt held reply)) (λ c. all (conflictAt held reply))))
-
 abbrev pub readPlace : Replica → ℕ → ℕ
 readPlace r id = findRead (r .reads) id
 
@@ -155,11 +146,12 @@ module _ (P : Outcome → Type 0) (r : Replica) (n peer id : ℕ) (fromLeader : 
   unfolding repliedStep replyTo
   replied-ways i k told full same less conflict =
       let d : Read = readAt r i in
+      let c : ℕ = conflictAt (d .tally) reply in
       pick-cases (λ (x : Replied). P (repliedStep r i x)) fromLeader (λ a. told)
       (λ a. pick-cases (λ (x : Replied). P (repliedStep r i x)) (has (d .acks) peer) (λ b. same)
-      (λ b. merge-ways (λ (m : Merged). P (repliedStep r i (acknowledged (quorum (r .sc)) peer d m))) (d .tally) reply (k 1 (omega arith)) (k 6 (omega arith))
-      (λ c. conflict c)
-      (λ c. ⊎-elim (λ (e : leb (quorum (r .sc)) (countIn (withAck (mergedRead d reply c) peer .acks)) ≡ true). rw e (full c))
+      (λ b. merge-cases (d .tally) reply (λ (m : Merged). P (repliedStep r i (acknowledged (quorum (r .sc)) peer d m))) (k 1 (omega arith)) (k 10 (omega arith))
+      (k 6 (omega arith)) (λ e f h. conflict c)
+      (λ e f h. ⊎-elim (λ (e : leb (quorum (r .sc)) (countIn (withAck (mergedRead d reply c) peer .acks)) ≡ true). rw e (full c))
       (λ (e : leb (quorum (r .sc)) (countIn (withAck (mergedRead d reply c) peer .acks)) ≡ false). rw e (less c))
       (decide (leb (quorum (r .sc)) (countIn (withAck (mergedRead d reply c) peer .acks)))))))
 

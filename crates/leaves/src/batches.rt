@@ -168,7 +168,7 @@ fn lent() {
     over(&keys, 255, of(2, 1, [99, 0, 0, 0, 0, 0, 0, 0]));
 }
 
-pub fn run() {
+pub(crate) fn run() {
     makes();
     sames();
     tables();

@@ -5,7 +5,7 @@ use tally::Held;
 use tally::MergedKey;
 use tally::merge::merge_key;
 
-pub fn value(slot: u64, value: u64) -> Best {
+pub(crate) fn value(slot: u64, value: u64) -> Best {
     Best::Value(Held {
         slot: slot,
         value: value,
@@ -68,7 +68,7 @@ fn row(h: u64) {
     pair(h, 9);
 }
 
-pub fn run() {
+pub(crate) fn run() {
     row(0);
     row(1);
     row(2);

@@ -38,12 +38,14 @@ fn tally(ours: Tally, theirs: Tally) {
     say::end();
 }
 
-// Nothing known; unequal lengths; nine keys; a conflict at the second of three keys; none; past the count; no keys.
+// Nothing known; unequal lengths; nine keys of both, of the held one, of the reply; a conflict at the second of three keys; none; past the
+// count; no keys.
 fn tallies() {
     tally(nothing_known(3), nothing_known(3));
     tally(held(2), told(3));
     tally(held(3), told(2));
     tally(held(9), told(9));
+    tally(held(9), told(3));
     tally(held(3), told(9));
     tally(held(3), told(3));
     tally(held(3), of(3, value(5, 51), Best::Slot(6), value(7, 70)));
@@ -244,7 +246,7 @@ fn leads(r: Read) {
     replied(2, 1, true, long, r);
 }
 
-pub fn run() {
+pub(crate) fn run() {
     tallies();
     answers();
     let two = few();

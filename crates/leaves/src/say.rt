@@ -4,20 +4,20 @@ use batch::KeyTable;
 use tally::Best;
 use tally::Tally;
 
-pub fn label(name: &[u8]) {
+pub(crate) fn label(name: &[u8]) {
     io::write_all(libc::STDOUT_FILENO, name);
 }
 
-pub fn number(n: u64) {
+pub(crate) fn number(n: u64) {
     io::write_all(libc::STDOUT_FILENO, b" ");
     io::print_decimal(libc::STDOUT_FILENO, n);
 }
 
-pub fn end() {
+pub(crate) fn end() {
     io::write_all(libc::STDOUT_FILENO, b"\n");
 }
 
-pub fn flag(b: bool) {
+pub(crate) fn flag(b: bool) {
     if b {
         number(1);
     } else {
@@ -26,7 +26,7 @@ pub fn flag(b: bool) {
 }
 
 // Tag, slot and value.
-pub fn best(b: Best) {
+pub(crate) fn best(b: Best) {
     match b {
         Best::Nothing => three(0, 0, 0),
         Best::Slot(s) => three(1, s, 0),
@@ -34,13 +34,13 @@ pub fn best(b: Best) {
     }
 }
 
-pub fn three(a: u64, b: u64, c: u64) {
+pub(crate) fn three(a: u64, b: u64, c: u64) {
     number(a);
     number(b);
     number(c);
 }
 
-pub fn eight(keys: [u64; 8]) {
+pub(crate) fn eight(keys: [u64; 8]) {
     number(keys[0]);
     number(keys[1]);
     number(keys[2]);
@@ -51,7 +51,7 @@ pub fn eight(keys: [u64; 8]) {
     number(keys[7]);
 }
 
-pub fn batch(b: Batch) {
+pub(crate) fn batch(b: Batch) {
     let keys = b.keys;
     number(b.id);
     number(b.count as u64);
@@ -59,7 +59,7 @@ pub fn batch(b: Batch) {
 }
 
 // The count, and the first three keys with their slots.
-pub fn table(t: KeyTable) {
+pub(crate) fn table(t: KeyTable) {
     label(b"table");
     number(t.count as u64);
     number(t.keys[0]);
@@ -72,7 +72,7 @@ pub fn table(t: KeyTable) {
 }
 
 // The count, and the first three keys' best answers.
-pub fn tally(t: Tally) {
+pub(crate) fn tally(t: Tally) {
     let first = t.bests[0];
     let second = t.bests[1];
     let third = t.bests[2];

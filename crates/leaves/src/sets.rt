@@ -153,7 +153,7 @@ fn rounds() {
     next(0, 255);
 }
 
-pub fn run() {
+pub(crate) fn run() {
     sets();
     counts();
     groups();

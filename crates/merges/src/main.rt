@@ -3,6 +3,7 @@
 //
 // The trace has one read after another. A read opened (kind 10) begins the tally anew, with nothing known of its keys; a reply that is not
 // marked from the leader (kind 11) is merged into it. Every other record is passed by, and so is a malformed one. There is room for 1024.
+// The last three lines are of counts over 8, which no trace can name.
 mod lent;
 mod line;
 
@@ -67,6 +68,15 @@ fn taken_all(mut run: Run, bytes: &[u8], text: &mut [u8]) -> Run {
     run
 }
 
+// A count over 8: of the tally held, of the reply, of both.
+fn overlong(run: Run, text: &mut [u8]) -> Run {
+    let few = listed(2, [1; 24]);
+    let many = listed(9, [1; 24]);
+    let first = told(run, merged(many, listed(2, [2; 24])), text);
+    let second = told(first, merged(few, listed(9, [2; 24])), text);
+    told(second, merged(many, listed(9, [2; 24])), text)
+}
+
 // Reads to the end, or until the bytes are full: a turn that does not end adds one byte at least.
 fn filled(bytes: &mut [u8]) -> usize
     ensures { λ r. ⌜ r ≤ length (now (bytes .exit)) ⌝ }
@@ -91,6 +101,7 @@ fn main() {
         tally: none,
         place: 0,
     };
-    let end = taken_all(start, &bytes[0..n], &mut text);
+    let all = taken_all(start, &bytes[0..n], &mut text);
+    let end = overlong(all, &mut text);
     feed::write_text(&text, end.place);
 }
