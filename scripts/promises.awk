@@ -52,9 +52,14 @@ function trimmed(s) {
   return s
 }
 
+function escaped(s) { gsub(/[().]/, "[&]", s); return s }
+
 function mentions(s, word) { return word != "_" && (" " s " ") ~ ("[^A-Za-z0-9_.-]" word "[^A-Za-z0-9_-]") }
 
-# as far as a text shows: a fact that every result v meets
+# a part of the outcome alone: the result v, or what is lent, after the call
+function bare(s, v) { return s == v || s ~ /^now \([a-z_]+ \.exit\)$/ }
+
+# as far as a text shows: a fact that every outcome meets
 function empty(fact, v,   i, left, right) {
   fact = trimmed(fact)
   if (fact == "⊤" || fact ~ /^Unit( \{0\})?$/) return 1
@@ -62,15 +67,14 @@ function empty(fact, v,   i, left, right) {
   if (!(i = outside(fact, "≡")) && !(i = outside(fact, "≤"))) return 0
   left = trimmed(substr(fact, 1, i - 1))
   right = trimmed(substr(fact, i + length("≡")))
-  return left == right || left == v && mentions(right, v) || right == v && mentions(left, v)
+  return left == right || bare(left, v) && mentions(right, escaped(left)) || bare(right, v) && mentions(left, escaped(right))
 }
 
 # one fact of a promise: what of the outcome it speaks of, and what it gives by an equation
-function take(fact, v,   i, side, part, given) {
+function take(fact, v,   i, side, part, given, said) {
   fact = trimmed(fact)
   if (!outside(fact, "→") && (i = outside(fact, "×"))) { take(substr(fact, 1, i - 1), v); take(substr(fact, i + length("×")), v); return }
   if (empty(fact, v)) return
-  facts++
   if (i = outside(fact, "→") ? 0 : outside(fact, "≡")) {
     side = given = substr(fact, 1, i - 1)
     gsub(/now \([a-z_]+ \.exit\)/, "", side)
@@ -80,9 +84,10 @@ function take(fact, v,   i, side, part, given) {
   }
   for (part in outcome) {
     i = part == "" ? v : part " \\.exit"
-    if (mentions(fact, i)) outcome[part] = outcome[part] "said "
+    if (mentions(fact, i)) { outcome[part] = outcome[part] "said "; said = 1 }
     if (mentions(given, i)) outcome[part] = outcome[part] "given "
   }
+  facts += said
 }
 
 # what follows `pub`: a function's head is looked at, and the rest is handed back from its body on

@@ -91,7 +91,7 @@ rowed-unique s t = (coincide (s .place) (t .place), coincide (s .bytes) (t .byte
 
 -- any two outcomes that the promise allows coincide
 pub shows-unique : {p : Page} {r r′ : Run} {room room′ text text′ : List ℕ} → Shows p r room text → Shows p r′ room′ text′
-    → (r ≡ r′) × ((room ≡ room′) × (text ≡ text′))
+    → (r ≡ r′) × (room ≡ room′) × (text ≡ text′)
 shows-unique s t = (coincide (s .ran) (t .ran), coincide (s .said) (t .said), coincide (s .printed) (t .printed))
 
 pub shows-at : (p : Page) (bytes : List ℕ) (at : ℕ) (h : Handled) (room text line : List ℕ) (n place : ℕ)
