@@ -15,7 +15,8 @@ pub struct Input {
     pub failed: bool,
 }
 
-// Reads once, behind the first `have` bytes. Where the read fails, standard error says so.
+// Reads once, behind the first `have` bytes, which stay; where there are not so many, nothing is read. Where the read fails, standard error
+// says so.
 pub fn read_more(bytes: &mut [u8], have: usize) -> Input
     ensures { λ r. ⌜ ReadBehind (now (bytes .entry)) have r (now (bytes .exit)) ⌝ }
 {
@@ -59,7 +60,7 @@ pub fn keep_rest(bytes: &mut [u8], n: usize) -> usize
     rest
 }
 
-// Writes the first n bytes of a text to standard output. Where that fails, standard error says so.
+// Writes the first n bytes of a text to standard output; false where there are not n. Where that fails, standard error says so.
 pub fn write_text(text: &[u8], n: usize) -> bool
     ensures { λ r. ⌜ (length (now (text .entry)) < n → r ≡ false) ⌝ }
 {
