@@ -45,6 +45,36 @@ Choice own answers b = ((answers ≡ []) × (b ≡ own)) ⊎ ((v : Vote) × (Hig
 abbrev pub Chosen : ℕ → (ℕ → Vote → Type 0) → Vote → Type 0
 Chosen group accepted v = (set : ℕ) × (Majority group set) × ((m : ℕ) → has set m ≡ true → accepted m v)
 
+-- 2.1: "Only a value that has been proposed may be chosen"
+abbrev pub OnlyProposed : ℕ → (ℕ → Vote → Type 0) → (Batch → Type 0) → Type 0
+OnlyProposed group accepted proposed = (v : Vote) → Chosen group accepted v → proposed (v .batch)
+
+-- 2.1: "Only a single value is chosen"
+abbrev pub OnlyOne : ℕ → (ℕ → Vote → Type 0) → Type 0
+OnlyOne group accepted = (v v′ : Vote) → Chosen group accepted v → Chosen group accepted v′ → v .batch ≡ v′ .batch
+
+-- 2.1: "A process never learns that a value has been chosen unless it actually has been"
+abbrev pub OnlyChosenLearned : ℕ → (ℕ → Vote → Type 0) → (ℕ → Batch → Type 0) → Type 0
+OnlyChosenLearned group accepted learned = (m : ℕ) (b : Batch) → learned m b → (v : Vote) × (Chosen group accepted v) × (v .batch ≡ b)
+
+-- 2.2, P2: "If a proposal with value v is chosen, then every higher-numbered proposal that is chosen has value v"
+abbrev pub P2 : ℕ → (ℕ → Vote → Type 0) → Type 0
+P2 group accepted = (v v′ : Vote) → Chosen group accepted v → Chosen group accepted v′ → v .ballot < v′ .ballot → v′ .batch ≡ v .batch
+
+-- 2.2, P2c: "For any v and n, if a proposal with value v and number n is issued, then there is a set S consisting of a majority of acceptors
+-- such that either (a) no acceptor in S has accepted any proposal numbered less than n, or (b) v is the value of the highest-numbered proposal
+-- among all proposals numbered less than n accepted by the acceptors in S"
+abbrev pub AcceptedBelow : (ℕ → Vote → Type 0) → ℕ → ℕ → Vote → Type 0
+AcceptedBelow accepted set n x = ((m : ℕ) × (has set m ≡ true) × accepted m x) × (x .ballot < n)
+
+abbrev pub P2c : ℕ → (ℕ → Vote → Type 0) → (Vote → Type 0) → Type 0
+P2c group accepted issued =
+    (p : Vote) → issued p
+    → (set : ℕ) × (Majority group set) ×
+    (((x : Vote) → AcceptedBelow accepted set (p .ballot) x → ⊥) ⊎
+    ((x : Vote) × (AcceptedBelow accepted set (p .ballot) x) × (x .batch ≡ p .batch) ×
+    ((y : Vote) → AcceptedBelow accepted set (p .ballot) y → y .ballot ≤ x .ballot)))
+
 -- ── ours ──
 -- our quorum is the paper's majority
 pub quorum-is-majority : (group set : ℕ) → fitsGroup set group ≡ true → Majority group set ↔ (quorumOf group ≤ countIn set)
