@@ -23,7 +23,7 @@ use Rattle.replica.specs.Record.{Outcome, logEnd}
 use Rattle.replica.specs.Step.{Call, step}
 use Rattle.agreement.specs.BySlot.{numbered}
 use Rattle.agreement.specs.Theorem.{Group, Mark, World, slotOf, rises, markAt, marksOf, put, begin, May, Reach, begins, turn, acceptEntry, commitEntry}
-use Rattle.agreement.specs.Group.{framed, inv, each, rises-commit, commit-rises, marked-earlier, accept-sent}
+use Rattle.agreement.specs.Group.{framed, inv, each, rises-commit, commit-rises, commit-earlier-in, accept-sent}
 
 -- an action that is an accept entry is one for its slot, ballot and batch
 pub any-entry : (a : Act) (p : Proposal) → a .what ≡ AcceptData p → a ≡ acceptEntry (p .slot) (p .ballot) (record { id = p .batch; count = p .count; keys = a .keys })
@@ -118,7 +118,7 @@ module _ (g : Group) (w : World) (reach : Reach g w) (ih : CommitsFollow w) (m :
         batch = slotOf (o .replica) s .batch;
         marked = new-mark (risen-marked m (w .replica m) (o .replica) s (marks-are-commits g w reach m p room c .back s x));
         entry = subst (λ (y : List Act). acceptEntry s (slotOf (o .replica) s .ballot) (slotOf (o .replica) s .batch) ∈ y) (sym e)
-            (Memᴰ·append-left l (marked-earlier g w (inv g w reach) m p c o (framed g w reach m p room c) (accept-sent w m room c a) s x));
+            (Memᴰ·append-left l (commit-earlier-in g w (inv g w reach) m p c o (framed g w reach m p room c) (accept-sent w m room c a) s x));
       }
 
   follow-step : CommitsFollow (put w m o)

@@ -65,12 +65,13 @@ pub record Wrote (v : View) (c : Call) (v′ : View) (s ballot : ℕ) (b : Batch
   pub held : Holds (v′ .slot s) ballot b
   pub why : Why v c s ballot b
 
--- a commit entry is of a slot that was Accepting and is Committed now, its ballot and batch kept
-pub record Marked (x y : Cell) : Type 0 where
+-- a commit entry is of a slot that was Accepting and is Committed now, its ballot and batch kept; the ballot is the largest seen
+pub record Marked (x y : Cell) (seen : ℕ) : Type 0 where
   pub was : x .status ≡ 2
   pub now : 3 ≤ y .status
   pub at : y .ballot ≡ x .ballot
   pub val : y .batch ≡ x .batch
+  pub top : y .ballot ≡ seen
 
 -- an Accept is sent for an own ballot, with its entry beside it
 pub record Sent (v : View) (acts : List Act) (s ballot : ℕ) (b : Batch) : Type 0 where
@@ -84,7 +85,7 @@ named p keys = record { id = p .batch; count = p .count; keys = keys }
 abbrev pub SaidOk : View → Call → View → List Act → List ℕ → Action → Type 0
 SaidOk v c v′ acts keys (PrepareBal p) = p .ballot ≡ v′ .seen
 SaidOk v c v′ acts keys (AcceptData p) = Wrote v c v′ (p .slot) (p .ballot) (named p keys)
-SaidOk v c v′ acts keys (CommitSlot p) = Marked (v .slot (p .slot)) (v′ .slot (p .slot))
+SaidOk v c v′ acts keys (CommitSlot p) = Marked (v .slot (p .slot)) (v′ .slot (p .slot)) (v′ .seen)
 SaidOk v c v′ acts keys (Prepare p) = Unit {0}
 SaidOk v c v′ acts keys (PrepareReply p) = Unit {0}
 SaidOk v c v′ acts keys (Accept p) = Sent v acts (p .slot) (p .ballot) (named p keys)

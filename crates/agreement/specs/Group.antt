@@ -158,7 +158,7 @@ module _ (r : Replica) (c : Call) (n : ℕ) (r′ : Replica) (acts : List Act) (
 
   pub commit-rises : (s : ℕ) → commitEntry s ∈ acts → rises (slotOf r s) (slotOf r′ s) ≡ true
   commit-rises s m =
-      let y : Marked (viewOf r .slot s) (viewOf r′ .slot s) = all-in (ActOk (viewOf r) c (viewOf r′) acts) (k .said) m in
+      let y : Marked (viewOf r .slot s) (viewOf r′ .slot s) (viewOf r′ .seen) = all-in (ActOk (viewOf r) c (viewOf r′) acts) (k .said) m in
       and-make (lt-ltb (slotOf r s .status) 3 (omega (arith, y .was))) (le-leb 3 (slotOf r′ s .status) (y .now))
 
 -- ── whatever keeps to the frame keeps the invariant: an outcome o of a call c at member m, whose Accept, if it is one, was sent or is refused ──
@@ -187,8 +187,8 @@ module _ (g : Group) (w : World) (i : Inv g w) (m : ℕ) (l : g .present m ≡ t
       from-why s b e x (y .why)
 
   -- the accept entry of a slot that is marked is in the log before the call
-  pub marked-earlier : (s : ℕ) → commitEntry s ∈ o .actions → acceptEntry s (slotOf (o .replica) s .ballot) (slotOf (o .replica) s .batch) ∈ w .did m
-  marked-earlier = commit-earlier m (viewOf (w .replica m)) (w .did m) c (o .answer) (viewOf (o .replica)) (o .actions) (i .local m l) k
+  pub commit-earlier-in : (s : ℕ) → commitEntry s ∈ o .actions → acceptEntry s (slotOf (o .replica) s .ballot) (slotOf (o .replica) s .batch) ∈ w .did m
+  commit-earlier-in = commit-earlier m (viewOf (w .replica m)) (w .did m) c (o .answer) (viewOf (o .replica)) (o .actions) (i .local m l) k
 
   marks-step : All (MarkOk (put w m o .did)) (marksOf m (w .replica m) (o .replica))
   unfolding marksOf
@@ -196,7 +196,7 @@ module _ (g : Group) (w : World) (i : Inv g w) (m : ℕ) (l : g .present m ≡ t
       all-gather (markAt m (w .replica m) (o .replica)) (MarkOk (put w m o .did)) (o .replica .sc .start) (logEnd (o .replica))
       (λ s _ _.
       pick-cases (All (MarkOk (put w m o .did))) (rises (slotOf (w .replica m) s) (slotOf (o .replica) s))
-      (λ e. (old w m o m (marked-earlier s (rises-commit (w .replica m) c (o .answer) (o .replica) (o .actions) k s e)), tt)) (λ _. tt))
+      (λ e. (old w m o m (commit-earlier-in s (rises-commit (w .replica m) c (o .answer) (o .replica) (o .actions) k s e)), tt)) (λ _. tt))
 
   after-marks : put w m o .marks ≡ w .marks ++ marksOf m (w .replica m) (o .replica)
   unfolding put

@@ -14,3 +14,4 @@ pub mod Runs
 pub mod Acks
 pub mod ChosenIf
 pub mod Truth
+pub mod Learning

@@ -167,5 +167,9 @@ module _ (j : ℕ) (v : View) (h : List Act) (c : Call) (n : ℕ) (v′ : View) 
   -- a commit entry has the accept entry of what it commits before it, in the log as it was
   pub commit-earlier : (s : ℕ) → commitEntry s ∈ acts → acceptEntry s (v′ .slot s .ballot) (v′ .slot s .batch) ∈ h
   commit-earlier s m =
-      let y : Marked (v .slot s) (v′ .slot s) = all-in (ActOk v c v′ acts) (k .said) m in
+      let y : Marked (v .slot s) (v′ .slot s) (v′ .seen) = all-in (ActOk v c v′ acts) (k .said) m in
       subst₂ (λ (b : ℕ) (e : Batch). acceptEntry s b e ∈ h) (sym (y .at)) (sym (y .val)) (i .voted s (y .was))
+
+  -- and is of a slot at the largest ballot seen
+  pub commit-top : (s : ℕ) → commitEntry s ∈ acts → v′ .slot s .ballot ≡ v′ .seen
+  commit-top s m = let y : Marked (v .slot s) (v′ .slot s) (v′ .seen) = all-in (ActOk v c v′ acts) (k .said) m in y .top

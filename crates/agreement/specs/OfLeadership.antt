@@ -7,7 +7,7 @@ use Prim.Native.Nat.{ℕ, _+_, _≤_, _<_}
 use native.Mathlib.Omega.{arith}
 use lib.Dec.{ltb, leb}
 use borrow.Author.Tests.{ltb-true, ltb-false, leb-true}
-use Rattle.base.specs.Pick.{pick-both, pick-cases, decide, tests, and-right}
+use Rattle.base.specs.Pick.{pick-both, pick-cases, decide, tests, and-both}
 use Rattle.base.specs.Gather.{gather, all-gather, in-gather}
 use Rattle.base.specs.Scan.{scan-high, scan-passed}
 use Rattle.base.specs.Among.{_∈_, All, all-append}
@@ -135,7 +135,8 @@ timeoutStep-ok r c g room source =
     (λ i h. subst (λ (x : Slot). 3 ≤ x .status) (sym (q .each i)) (open-placed (r .window) i (omega (arith, f .open-high))))))
 
 -- ── CommitNotice ──
-module _ (r : Replica) (c : Call) (w : Window) (ballot from to : ℕ) (g : GoodReplica r) (q : Grew (r .window) w) (l : from ≤ to) (fits : to ≤ w .len) where
+module _ (r : Replica) (c : Call) (w : Window) (ballot from to : ℕ) (g : GoodReplica r) (q : Grew (r .window) w) (l : from ≤ to) (fits : to ≤ w .len)
+    (seen : ballot ≡ r .sc .«bal_max_seen») where
   abbrev pub stop : ℕ
   stop = markStop w ballot from to
 
@@ -155,11 +156,12 @@ module _ (r : Replica) (c : Call) (w : Window) (ballot from to : ℕ) (g : GoodR
   unfolding markStop
   stop-high = scan-high (λ i. mayMark ballot (slotAt w i)) from to l
 
-  -- where it marks, the slot is at or above Accepting
-  may : (i : ℕ) → from ≤ i → i < stop → 2 ≤ slotAt w i .status
+  -- where it marks, the slot is at or above Accepting, and not below the ballot
+  may : (i : ℕ) → from ≤ i → i < stop → (ballot ≤ slotAt w i .ballot) × (2 ≤ slotAt w i .status)
   unfolding markStop
-  may i a b = leb-true 2 (slotAt w i .status) (and-right (leb ballot (slotAt w i .ballot)) (leb accepting (slotAt w i .status))
-      (scan-passed (λ i. mayMark ballot (slotAt w i)) from to i a b))
+  may i a b =
+      let (x, y) = and-both (leb ballot (slotAt w i .ballot)) (leb accepting (slotAt w i .status)) (scan-passed (λ i. mayMark ballot (slotAt w i)) from to i a b) in
+      (leb-true ballot (slotAt w i .ballot) x, leb-true 2 (slotAt w i .status) y)
 
   abbrev pub Noticed : ℕ → Slot → Slot → Type 0
   Noticed i x y = Turned (view (r .sc) w) (r .sc) (view (r .sc) noticedW) noticed (r .sc .start + i) x y
@@ -172,7 +174,7 @@ module _ (r : Replica) (c : Call) (w : Window) (ballot from to : ℕ) (g : GoodR
       pick-cases (Noticed i (slotAt w i)) (leb committed (slotAt w i .status)) (λ t. turned-self (slotAt w i) k) (λ t.
       record {
         good = record { under = k .under; busy = λ _ _ z. absurd (omega arith); tidy = k .tidy; tidyVote = k .tidyVote };
-        step = kept (may i a b) (λ z. absurd (omega arith)) (record { on = omega arith; at = refl; val = refl });
+        step = kept (may i a b .1) (λ z. absurd (omega arith)) (record { on = omega arith; at = refl; val = refl });
         rise = λ _ _. noticed-in i a b t;
       })
 
@@ -185,15 +187,19 @@ module _ (r : Replica) (c : Call) (w : Window) (ballot from to : ℕ) (g : GoodR
       (λ a b _. subst (λ (x : Slot). Noticed i x (markedSlot x)) (sym (here i b)) (noticed-turned i a b (subst (GoodSlot (r .sc)) (here i b) (gw′ .each i))))
       (λ _. turned-self (atPlace w i) (gw′ .each i))
 
+  -- it is at the notice's ballot, since none is above the largest seen
+  at-ballot : (i : ℕ) → from ≤ i → i < stop → slotAt w i .ballot ≡ r .sc .«bal_max_seen»
+  at-ballot i a b = omega (arith, may i a b .0, subst (GoodSlot (r .sc)) (here i b) (gw′ .each i) .under)
+
   noticed-marked : (i : ℕ) → from ≤ i → i < stop → leb committed (slotAt w i .status) ≡ false
-      → Marked (view (r .sc) w .slot (r .sc .start + i)) (view (r .sc) noticedW .slot (r .sc .start + i))
+      → Marked (view (r .sc) w .slot (r .sc .start + i)) (view (r .sc) noticedW .slot (r .sc .start + i)) (r .sc .«bal_max_seen»)
   noticed-marked i a b t =
-      at-number (λ (x : Cell). Marked x (view (r .sc) noticedW .slot (r .sc .start + i))) (r .sc .start) w (r .sc .start + i) i refl
-      (at-number (Marked (cell (atPlace w i))) (r .sc .start) noticedW (r .sc .start + i) i refl
-      (subst (λ (y : Slot). Marked (cell (atPlace w i)) (cell y))
+      at-number (λ (x : Cell). Marked x (view (r .sc) noticedW .slot (r .sc .start + i)) (r .sc .«bal_max_seen»)) (r .sc .start) w (r .sc .start + i) i refl
+      (at-number (λ (y : Cell). Marked (cell (atPlace w i)) y (r .sc .«bal_max_seen»)) (r .sc .start) noticedW (r .sc .start + i) i refl
+      (subst (λ (y : Slot). Marked (cell (atPlace w i)) (cell y) (r .sc .«bal_max_seen»))
       (sym (sweep-at (λ i s. markedSlot s) from stop w i (omega (arith, q .wide, q .short)) a b (omega (arith, stop-high))))
-      (subst (λ (x : Slot). Marked (cell x) (cell (markedSlot x))) (sym (here i b))
-      (rw t (record { was = omega (arith, tests, may i a b); now = omega arith; at = refl; val = refl })))))
+      (subst (λ (x : Slot). Marked (cell x) (cell (markedSlot x)) (r .sc .«bal_max_seen»)) (sym (here i b))
+      (rw t (record { was = omega (arith, tests, may i a b .1); now = omega arith; at = refl; val = refl; top = at-ballot i a b })))))
 
   noticed-ok : StepOk (view (r .sc) (r .window)) c 0 (r .sc) noticedW noticed
   noticed-ok =
@@ -209,4 +215,4 @@ pub commitNoticeStep-ok : (r : Replica) (c : Call) → GoodReplica r → (room p
 commitNoticeStep-ok r c g room peer ballot bar =
     commitNoticeStep-ways (Ok r c) r room peer ballot bar (λ n _. kept-ok r c g n)
     (λ f. noticed-ok r c (markWindow r bar) ballot (markFrom r) (place (r .sc) bar) g (grew (r .window) g (place (r .sc) bar) (omega (arith, f .high)))
-    (omega (arith, f .above)) (filled-has nullSlot (r .window) (place (r .sc) bar)))
+    (omega (arith, f .above)) (filled-has nullSlot (r .window) (place (r .sc) bar)) (f .seen))

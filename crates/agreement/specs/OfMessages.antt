@@ -222,7 +222,10 @@ like-ok sc w c sc′ i y acts g q h l plain =
 
 -- ── AcceptReply, also a leader's to itself ──
 module _ (sc : Scalars) (w : Window) (c : Call) (g : Good sc w) (slot i : ℕ) (at : slot ≡ sc .start + i) (h : i < w .len) where
-  module _ (peer : ℕ) (is : slotAt w i .status ≡ 2) where
+  module _ (peer : ℕ) (is : slotAt w i .status ≡ 2) (lead : leads sc ≡ true) where
+    good-here : GoodSlot sc (slotAt w i)
+    good-here = subst (GoodSlot sc) (at-here w i h) (g .each i)
+
     abbrev pub marked : Slot
     marked = committedSlot (acknowledgedSlot peer (slotAt w i))
 
@@ -238,17 +241,14 @@ module _ (sc : Scalars) (w : Window) (c : Call) (g : Good sc w) (slot i : ℕ) (
           rise = λ _ _. List·Memᴰ·head (ap commitEntry (omega arith));
         }))
         (λ _. turned-self (atPlace w k) (g .each k))
-      where
-        good-here : GoodSlot sc (slotAt w i)
-        good-here = subst (GoodSlot sc) (at-here w i h) (g .each i)
 
-    marked-marked : Marked (view sc w .slot slot) (view sc (putSlot w i marked) .slot slot)
+    marked-marked : Marked (view sc w .slot slot) (view sc (putSlot w i marked) .slot slot) (sc .«bal_max_seen»)
     marked-marked =
-        at-number (λ (x : Cell). Marked x (view sc (putSlot w i marked) .slot slot)) (sc .start) w slot i at
-        (at-number (Marked (cell (atPlace w i))) (sc .start) (putSlot w i marked) slot i at
-        (subst (λ (x : Slot). Marked (cell x) (cell (atPlace (putSlot w i marked) i))) (sym (at-here w i h))
-        (subst (λ (y : Slot). Marked (cell (slotAt w i)) (cell y)) (sym (put-at w i marked h (omega (arith, g .wide, g .short))))
-        (record { was = is; now = omega arith; at = refl; val = refl }))))
+        at-number (λ (x : Cell). Marked x (view sc (putSlot w i marked) .slot slot) (sc .«bal_max_seen»)) (sc .start) w slot i at
+        (at-number (λ (y : Cell). Marked (cell (atPlace w i)) y (sc .«bal_max_seen»)) (sc .start) (putSlot w i marked) slot i at
+        (subst (λ (x : Slot). Marked (cell x) (cell (atPlace (putSlot w i marked) i)) (sc .«bal_max_seen»)) (sym (at-here w i h))
+        (subst (λ (y : Slot). Marked (cell (slotAt w i)) (cell y) (sc .«bal_max_seen»)) (sym (put-at w i marked h (omega (arith, g .wide, g .short))))
+        (record { was = is; now = omega arith; at = refl; val = refl; top = good-here .busy lead (omega arith) (omega arith) }))))
 
     pub marked-ok : StepOk (view sc w) c 0 sc (putSlot w i marked) (commitEntry slot ∷ [])
     marked-ok =
@@ -264,4 +264,4 @@ pub acceptReplyStep-ok : (r : Replica) (c : Call) → GoodReplica r → (room pe
 acceptReplyStep-ok r c g room peer slot ballot =
     acceptReplyStep-ways (Ok r c) r room peer slot ballot (λ n _. kept-ok r c g n)
     (λ f q. acked-ok (r .sc) (r .window) c g slot (place (r .sc) slot) (omega (arith, f .low)) (omega (arith, f .low, f .high)) peer)
-    (λ f q. marked-ok (r .sc) (r .window) c g slot (place (r .sc) slot) (omega (arith, f .low)) (omega (arith, f .low, f .high)) peer (f .counts .status))
+    (λ f q. marked-ok (r .sc) (r .window) c g slot (place (r .sc) slot) (omega (arith, f .low)) (omega (arith, f .low, f .high)) peer (f .counts .status) (f .counts .leading))

@@ -117,7 +117,7 @@ module _ (r : Replica) (c : Call) (g : GoodReplica r) where
       → StepOk (view (r .sc) (r .window)) c 0 (after .sc) (after .window) acts
   completed-ok i slot at h _ _ completes-silent = idle-ok (r .sc) (r .window) c 0 [] g (λ _ _ _ _. tt) (λ _. refl)
   completed-ok i slot at h _ _ (completes-more b a q) = acked-ok (r .sc) (r .window) c g slot i at h (r .sc .id)
-  completed-ok i slot at h _ _ (completes-commit b a q) = marked-ok (r .sc) (r .window) c g slot i at h (r .sc .id) (a .status)
+  completed-ok i slot at h _ _ (completes-commit b a q) = marked-ok (r .sc) (r .window) c g slot i at h (r .sc .id) (a .status) (a .leading)
   completed-ok i slot at h _ _ (completes-report n p) = idle-ok (r .sc) (r .window) c 0 _ g (λ _ _ _ _. (tt, tt)) (λ z. absurd (z refl))
 
 -- accept_bar moves
