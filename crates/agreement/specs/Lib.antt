@@ -10,8 +10,11 @@ pub mod Calls
 pub mod Local
 pub mod Group
 pub mod Commits
+pub mod Written
 pub mod Runs
 pub mod Acks
 pub mod ChosenIf
 pub mod Truth
 pub mod Learning
+pub mod Worlds
+pub mod Unsafe

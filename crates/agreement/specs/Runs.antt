@@ -1,12 +1,12 @@
 -- Runs of a group of three, by computation: the theorem is about something, and demand 3 does not promise more than it says.
 use mathlib.Core.Path.{_≡_, refl, ap}
 use mathlib.Core.Bool.{Bool, true, _&&_}
-use mathlib.Core.List.{List, [], _∷_, List·Memᴰ·head, List·Memᴰ·tail}
+use mathlib.Core.List.{List, [], _∷_, _++_, List·Memᴰ·head, List·Memᴰ·tail}
 use mathlib.Core.Logic.{_⊎_, inl, inr}
 use Prim.Native.Nat.{ℕ, zero, suc}
 use native.Mathlib.Omega.{arith}
 use lib.Dec.{ltb}
-use lib.ListN.{getD, drop, replicate}
+use lib.ListN.{getD, take, drop, replicate}
 use Rattle.base.specs.Pick.{and-left, and-right}
 use Rattle.base.specs.Scan.{scan}
 use Rattle.base.specs.Among.{_∈_}
@@ -16,7 +16,7 @@ use Rattle.batch.specs.Batches.{emptyBatch, makeBatch}
 use Rattle.batch.specs.Keys.{placeIn, noteKey, noteKeys, newKeys, overfullIn}
 use Rattle.tally.specs.Merge.{merge}
 use Rattle.tally.specs.Open.{findRead, openRead, closeRead, putRead, replyTo, fitReads}
-use Rattle.actions.specs.declared.Action.the-variants.{StatusUp}
+use Rattle.actions.specs.declared.Action.the-variants.{CommitNotice, StatusUp}
 use Rattle.actions.specs.Actions.{Act, bare}
 use Rattle.slots.specs.Slots.{fitSlot}
 use Rattle.decide.specs.Bars.{notAbove, leastMajority, withBar, withFallen}
@@ -33,9 +33,11 @@ use Rattle.replica.specs.Leadership.{leadOn, stepUp, timeoutStep, markOn, commi
 use Rattle.replica.specs.Durability.{preparedDone, movedAccept, acceptedDone, passOn, passStop, committedDone, loggedOn, loggedStep}
 use Rattle.replica.specs.Quorumread.{openReadStep, repliedStep, readReplyStep}
 use Rattle.replica.specs.Added.{offerStep, movedExec, executedStep}
-use Rattle.replica.specs.Step.{Call, callAccept, callTimeout, callLogged, callOffer, step, received}
+use Rattle.replica.specs.Step.{Call, callAccept, callCommitNotice, callTimeout, callLogged, callOffer, step, received}
 use Rattle.agreement.specs.BySlot.{numbered}
-use Rattle.agreement.specs.Theorem.{Group, Mark, World, marksOf, upd, put, begin, timer, offer, logged, message, Reach, begins, turn, acceptEntry}
+use Rattle.agreement.specs.Theorem.{Group, Mark, World, marksOf, upd, put, begin, May, timer, offer, logged, message, Reach, begins, turn, acceptEntry}
+use Rattle.agreement.specs.Local.{acceptSent}
+use Rattle.agreement.specs.Written.{line, lines}
 
 -- what happens at member m: a timer, an offer, a completion, or the k-th thing that somebody did arrives, if it is a message
 pub data Turn : Type 0 where
@@ -219,3 +221,76 @@ once b = times 0 0 ∷ logs 0 PrepareBal 0 40 ∷ offers 0 b ∷ []
 pub one-id : (acceptEntry 1 257 seven ∈ play (begin alone) (once seven) .did 0) × (acceptEntry 1 257 eight ∈ play (begin alone) (once eight) .did 0)
 unfolding play happen deliver once alone begin put upd marksOf atPlace numbered newReplica fit fitScalars fitSlots fitReads fitSlot filled noting settled prepareOn prepareStep lastUsed countedOn votedOn repliedOn replyOn prepareReplyStep acceptStep acceptReplyStep firstOpen lastOpen leadOn stepUp timeoutStep markOn markStop commitNoticeStep preparedDone movedAccept acceptedDone passOn passStop committedDone loggedOn loggedStep openReadStep repliedStep readReplyStep offerStep movedExec executedStep decideAccept decideAcceptReply decideVote decideCount decidePromised decideAccepted decideOffer notAbove leastMajority withBar withFallen has insert count countIn makeBatch noteKey noteKeys newKeys placeIn overfullIn merge findRead openRead closeRead putRead replyTo scan
 one-id = (further 6 (play (begin alone) (once seven) .did 0) (List·Memᴰ·head refl), further 6 (play (begin alone) (once eight) .did 0) (List·Memᴰ·head refl))
+
+-- ── what the paper asks for, and does not hold: the entries of `late`, read by Unsafe ──
+-- slot 1 has batch 7 from members 0 and 2 alone, at 257 and at 771, and the empty one from member 1 alone, at 514
+pub record LateEntries (w : World) : Type 0 where
+  pub of-0 : lines (w .did 0) ≡ line 0 257 0 ∷ line 1 257 7 ∷ line 1 771 7 ∷ []
+  pub of-1 : lines (w .did 1) ≡ line 0 514 0 ∷ line 1 514 0 ∷ []
+  pub of-2 : lines (w .did 2) ≡ line 1 257 7 ∷ line 0 771 0 ∷ line 1 771 7 ∷ []
+  pub seven-0 : acceptEntry 1 257 seven ∈ w .did 0
+  pub seven-2 : acceptEntry 1 257 seven ∈ w .did 2
+  pub sent : acceptSent 1 514 emptyBatch ∈ w .did 1
+
+pub late-entries : LateEntries lateWorld
+unfolding play happen deliver late three begin put upd marksOf atPlace numbered newReplica fit fitScalars fitSlots fitReads fitSlot filled noting settled prepareOn prepareStep lastUsed countedOn votedOn repliedOn replyOn prepareReplyStep acceptStep acceptReplyStep firstOpen lastOpen leadOn stepUp timeoutStep markOn markStop commitNoticeStep preparedDone movedAccept acceptedDone passOn passStop committedDone loggedOn loggedStep openReadStep repliedStep readReplyStep offerStep movedExec executedStep decideAccept decideAcceptReply decideVote decideCount decidePromised decideAccepted decideOffer notAbove leastMajority withBar withFallen has insert count countIn makeBatch noteKey noteKeys newKeys placeIn overfullIn merge findRead openRead closeRead putRead replyTo scan lines
+late-entries =
+    record {
+      of-0 = refl;
+      of-1 = refl;
+      of-2 = refl;
+      seven-0 = further 6 (lateWorld .did 0) (List·Memᴰ·head refl);
+      seven-2 = further 0 (lateWorld .did 2) (List·Memᴰ·head refl);
+      sent = further 10 (lateWorld .did 1) (List·Memᴰ·head refl);
+    }
+
+-- the same run up to its first mark; then member 0, who accepted batch 7 at 257 as a leader and told nobody, takes the Accept at 514 too
+unfoldable pub twice : List Turn
+twice = take 18 late ++ (gets 0 1 10 ∷ [])
+
+abbrev pub twiceWorld : World
+twiceWorld = play (begin three) twice
+
+pub twice-reached : Reach three twiceWorld
+unfolding allPresent three late twice
+twice-reached = play-reach three twice (begin three) begins refl
+
+pub record TwiceEntries (w : World) : Type 0 where
+  pub marks : w .marks ≡ mark 1 1 514 emptyBatch ∷ []
+  pub seven-0 : acceptEntry 1 257 seven ∈ w .did 0
+  pub seven-2 : acceptEntry 1 257 seven ∈ w .did 2
+  pub empty-0 : acceptEntry 1 514 emptyBatch ∈ w .did 0
+  pub empty-1 : acceptEntry 1 514 emptyBatch ∈ w .did 1
+
+pub twice-entries : TwiceEntries twiceWorld
+unfolding play happen deliver late three begin put upd marksOf atPlace numbered newReplica fit fitScalars fitSlots fitReads fitSlot filled noting settled prepareOn prepareStep lastUsed countedOn votedOn repliedOn replyOn prepareReplyStep acceptStep acceptReplyStep firstOpen lastOpen leadOn stepUp timeoutStep markOn markStop commitNoticeStep preparedDone movedAccept acceptedDone passOn passStop committedDone loggedOn loggedStep openReadStep repliedStep readReplyStep offerStep movedExec executedStep decideAccept decideAcceptReply decideVote decideCount decidePromised decideAccepted decideOffer notAbove leastMajority withBar withFallen has insert count countIn makeBatch noteKey noteKeys newKeys placeIn overfullIn merge findRead openRead closeRead putRead replyTo scan twice
+twice-entries =
+    record {
+      marks = refl;
+      seven-0 = further 6 (twiceWorld .did 0) (List·Memᴰ·head refl);
+      seven-2 = further 0 (twiceWorld .did 2) (List·Memᴰ·head refl);
+      empty-0 = further 13 (twiceWorld .did 0) (List·Memᴰ·head refl);
+      empty-1 = further 9 (twiceWorld .did 1) (List·Memᴰ·head refl);
+    }
+
+-- ── a notice that marks, for Learning: in `changed`, member 2 gets that of member 1 ──
+abbrev pub noticedWorld : World
+noticedWorld = play (begin three) (take 22 changed)
+
+pub noticed-reached : Reach three noticedWorld
+unfolding allPresent three changed
+noticed-reached = play-reach three (take 22 changed) (begin three) begins refl
+
+pub record NoticeMarks (w : World) : Type 0 where
+  pub may : May w 2 3456 (callCommitNotice 1 514 2)
+  pub marks : marksOf 2 (w .replica 2) (step (w .replica 2) 3456 (callCommitNotice 1 514 2) .replica) ≡ mark 2 0 514 emptyBatch ∷ mark 2 1 514 seven ∷ []
+
+pub notice-marks : NoticeMarks noticedWorld
+unfolding play happen deliver changed three begin put upd marksOf atPlace numbered newReplica fit fitScalars fitSlots fitReads fitSlot filled noting settled prepareOn prepareStep lastUsed countedOn votedOn repliedOn replyOn prepareReplyStep acceptStep acceptReplyStep firstOpen lastOpen leadOn stepUp timeoutStep markOn markStop commitNoticeStep preparedDone movedAccept acceptedDone passOn passStop committedDone loggedOn loggedStep openReadStep repliedStep readReplyStep offerStep movedExec executedStep decideAccept decideAcceptReply decideVote decideCount decidePromised decideAccepted decideOffer notAbove leastMajority withBar withFallen has insert count countIn makeBatch noteKey noteKeys newKeys placeIn overfullIn merge findRead openRead closeRead putRead replyTo scan
+notice-marks =
+    record {
+      may =
+          message 1 (bare (CommitNotice (record { ballot = 514; bar = 2 }))) (callCommitNotice 1 514 2) (further 15 (noticedWorld .did 1) (List·Memᴰ·head refl))
+          (List·Memᴰ·head refl);
+      marks = refl;
+    }
