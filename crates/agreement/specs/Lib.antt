@@ -18,3 +18,5 @@ pub mod Truth
 pub mod Learning
 pub mod Worlds
 pub mod Unsafe
+pub mod Carried
+pub mod Proposed
