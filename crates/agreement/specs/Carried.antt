@@ -1,13 +1,13 @@
 -- A call makes up no batch: what its slots hold and what its messages and entries name, it held before or was brought. Of any Q that the empty
 -- batch has: where each batch of a replica and of a call is in Q, so is each after the call and each that it names.
-use mathlib.Core.Path.{_≡_, refl, sym, _∙_, subst}
-use mathlib.Core.Bool.{Bool, true, not, _&&_, _||_}
+use mathlib.Core.Path.{_≡_, refl, _∙_, subst}
+use mathlib.Core.Bool.{Bool, true, not, _||_}
 use mathlib.Core.List.{List, [], _∷_}
 use Prim.Native.Nat.{ℕ, _+_, _≤_, _<_}
 use native.Mathlib.Omega.{arith}
 use lib.Dec.{ltb, leb, eqb}
 use lib.ListN.{length}
-use Rattle.base.specs.Pick.{pick, pick-both, pick-cases, and-left}
+use Rattle.base.specs.Pick.{pick-both, pick-cases, and-left}
 use Rattle.base.specs.Gather.{gather, all-gather}
 use Rattle.base.specs.Among.{All, all-append}
 use Rattle.batch.specs.declared.Batch.{Batch}
@@ -29,12 +29,12 @@ use Rattle.decide.specs.PrepareReply.{ownReply}
 use Rattle.window.specs.declared.Window.{Window}
 use Rattle.window.specs.Window.{slotAt, putSlot, filled, grown, sweep, firstOpen}
 use Rattle.window.specs.Acts.{promise, redoActs, enterActs, markActs, passActs}
-use Rattle.window.specs.Places.{put-long, filled-long, filled-most, filled-has, sweep-long}
+use Rattle.window.specs.Places.{put-long, filled-long, filled-most, sweep-long}
 use Rattle.window.specs.ByPlace.{atPlace, at-here, filled-cases, put-cases, sweep-cases}
 use Rattle.replica.specs.declared.Replica.{Replica}
 use Rattle.replica.specs.declared.Done.{Done}
 use Rattle.replica.specs.Record.{Outcome, kept, place, number, logEnd}
-use Rattle.replica.specs.Messages.{clean, downActs, prepareBook, prepareStep, acceptStep, acceptReplyStep, appended, appendActs, appendedAs, replyOn, cleanReply, prepareReplyStep}
+use Rattle.replica.specs.Messages.{clean, downActs, prepareBook, prepareStep, acceptStep, acceptReplyStep, appendActs, appendedAs, replyOn, cleanReply, prepareReplyStep}
 use Rattle.replica.specs.Leadership.{timeoutStep, commitNoticeStep}
 use Rattle.replica.specs.Durability.{movedAccept, passStop, loggedOn, loggedStep}
 use Rattle.replica.specs.Quorumread.{openReadStep, readAct, readReplyStep}
@@ -42,12 +42,11 @@ use Rattle.replica.specs.Added.{offerStep, movedExec, executedStep}
 use Rattle.replica.specs.Step.{Call, callPrepare, callPrepareReply, callAccept, callAcceptReply, callCommitNotice, callTimeout, callLogged, callOffer, callExecuted, callOpenRead, callReadReply, step}
 use Rattle.laws.specs.Leaves.{done}
 use Rattle.laws.specs.Appended.{appended-low, appended-has}
-use Rattle.laws.specs.OfDecide.{accepts}
-use Rattle.laws.specs.WaysMessages.{prepareWindow, prepareEnd, prepareStep-ways, acceptWindow, acceptStep-ways, repliedSlot, acceptReplyStep-ways}
+use Rattle.laws.specs.WaysMessages.{prepareWindow, prepareEnd, prepareStep-ways, acceptWindow, acceptStep-ways, acceptReplyStep-ways}
 use Rattle.laws.specs.WaysLeadership.{leadWindow, leadTrigger, leadEnd, leadFrom, timeoutStep-ways, markWindow, markFrom, markEnd, commitNoticeStep-ways}
-use Rattle.laws.specs.WaysReply.{adoptsVote, heardSlot, replyWindow, replySlot, heardWindow, triggerSlot, countedWindow, tabledSc, Answers, Heard, replyOn-ways, prepareReplyStep-ways, reply-place}
+use Rattle.laws.specs.WaysReply.{adoptsVote, heardSlot, replyWindow, replySlot, heardWindow, triggerSlot, countedWindow, tabledSc, Answers, replyOn-ways, prepareReplyStep-ways, reply-place}
 use Rattle.laws.specs.WaysDurability.{logged, loggedAt, Logs, Completes, completes-silent, completes-more, completes-commit, completes-report, moved-ways, passFrom, passed, loggedStep-ways}
-use Rattle.laws.specs.WaysAdded.{offerWindow, offerStep-ways, executedWindow, executedStep-ways, openReadStep-ways, readPlace, readAt, mergedRead, closed, readReplyStep-ways}
+use Rattle.laws.specs.WaysAdded.{offerWindow, offerStep-ways, executedStep-ways, openReadStep-ways, readPlace, readAt, mergedRead, closed, readReplyStep-ways}
 use Rattle.agreement.specs.Frame.{named}
 
 module _ (Q : Batch → Type 0) where

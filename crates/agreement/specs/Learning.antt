@@ -2,13 +2,12 @@
 -- every call, also one that may not happen; their proofs stand below.
 use mathlib.Core.Path.{_≡_, refl, sym, _∙_, ap, subst}
 use mathlib.Core.Bool.{true}
-use mathlib.Core.List.{List, [], _∷_, List·Memᴰ·head, List·Memᴰ·not-nil, List·Memᴰ·eq-of-singleton}
+use mathlib.Core.List.{List, List·Memᴰ·not-nil, List·Memᴰ·eq-of-singleton}
 use Prim.Native.Nat.{ℕ}
 use native.Mathlib.Omega.{arith}
-use Rattle.base.specs.Pick.{pick, pick-cases}
+use Rattle.base.specs.Pick.{pick-cases}
 use Rattle.base.specs.Gather.{gather-in}
 use Rattle.base.specs.Among.{_∈_}
-use Rattle.actions.specs.Actions.{Act}
 use Rattle.replica.specs.declared.Replica.{Replica}
 use Rattle.replica.specs.Record.{Outcome, logEnd}
 use Rattle.replica.specs.Step.{Call, callCommitNotice, step}

@@ -2,7 +2,7 @@
 -- empty batch or what was offered in the run, its unused key numbers dropped.
 use mathlib.Core.Path.{_≡_, refl, sym, subst}
 use mathlib.Core.Bool.{Bool, true, false}
-use mathlib.Core.List.{List, [], _∷_, _++_, List·Memᴰ·not-nil, List·Memᴰ·eq-of-singleton}
+use mathlib.Core.List.{List, List·Memᴰ·not-nil, List·Memᴰ·eq-of-singleton}
 use mathlib.Core.Logic.{_⊎_, inl, inr}
 use Prim.Native.Nat.{ℕ, zero, suc, _<_}
 use native.Mathlib.Omega.{arith}
@@ -14,21 +14,19 @@ use Rattle.batch.specs.Batches.{emptyBatch, makeBatch}
 use Rattle.actions.specs.declared.Action.{Action}
 use Rattle.actions.specs.declared.Action.the-variants.{PrepareBal, AcceptData, CommitSlot, Prepare, PrepareReply, Accept, AcceptReply, CommitNotice, Heartbeat, StatusUp, StatusDown, Execute, ReadAnswer}
 use Rattle.actions.specs.Actions.{Act}
-use Rattle.slots.specs.declared.Slot.{Slot}
 use Rattle.decide.specs.Scalars.{mayBe}
 use Rattle.window.specs.declared.Window.{Window}
 use Rattle.window.specs.Window.{noSlots}
 use Rattle.window.specs.ByPlace.{at-past}
-use Rattle.replica.specs.declared.Replica.{Replica}
 use Rattle.replica.specs.declared.Made.{Made}
-use Rattle.replica.specs.Record.{Outcome, newReplica}
+use Rattle.replica.specs.Record.{newReplica}
 use Rattle.replica.specs.Messages.{clean}
 use Rattle.replica.specs.Step.{Call, step, received}
 use Rattle.voting.specs.Paper.{Majority, OnlyProposed}
 use Rattle.agreement.specs.Theorem.{Group, World, put, begin, May, timer, offer, logged, executed, opened, replied, message, refused, Reach, begins, turn, acceptEntry}
 use Rattle.agreement.specs.OfMessages.{clean-clean}
 use Rattle.agreement.specs.Group.{each}
-use Rattle.agreement.specs.Worlds.{accepted, Offered, Proposed}
+use Rattle.agreement.specs.Worlds.{accepted, Proposed}
 use Rattle.agreement.specs.Carried.{SlotIn, WindowIn, SaysIn, ActIn, CallIn, OutcomeIn, step-in}
 
 -- ── the statements ──
