@@ -29,7 +29,7 @@ use Rattle.decide.specs.PrepareReply.{ownReply}
 use Rattle.window.specs.declared.Window.{Window}
 use Rattle.window.specs.Window.{slotAt, putSlot, filled, grown, sweep, firstOpen}
 use Rattle.window.specs.Acts.{promise, redoActs, enterActs, markActs, passActs}
-use Rattle.window.specs.Places.{put-long, filled-long, filled-most, sweep-long}
+use Rattle.window.specs.Places.{put-long, filled-long, filled-low, filled-has, filled-most, sweep-long}
 use Rattle.window.specs.ByPlace.{atPlace, at-here, filled-cases, put-cases, sweep-cases}
 use Rattle.replica.specs.declared.Replica.{Replica}
 use Rattle.replica.specs.declared.Done.{Done}
@@ -41,7 +41,6 @@ use Rattle.replica.specs.Quorumread.{openReadStep, readAct, readReplyStep}
 use Rattle.replica.specs.Added.{offerStep, movedExec, executedStep}
 use Rattle.replica.specs.Step.{Call, callPrepare, callPrepareReply, callAccept, callAcceptReply, callCommitNotice, callTimeout, callLogged, callOffer, callExecuted, callOpenRead, callReadReply, step}
 use Rattle.laws.specs.Leaves.{done}
-use Rattle.laws.specs.Appended.{appended-low, appended-has}
 use Rattle.laws.specs.WaysMessages.{prepareWindow, prepareEnd, prepareStep-ways, acceptWindow, acceptStep-ways, acceptReplyStep-ways}
 use Rattle.laws.specs.WaysLeadership.{leadWindow, leadTrigger, leadEnd, leadFrom, timeoutStep-ways, markWindow, markFrom, markEnd, commitNoticeStep-ways}
 use Rattle.laws.specs.WaysReply.{adoptsVote, heardSlot, replyWindow, replySlot, heardWindow, triggerSlot, countedWindow, tabledSc, Answers, replyOn-ways, prepareReplyStep-ways, reply-place}
@@ -223,6 +222,9 @@ module _ (Q : Batch → Type 0) where
           filled-in (appendedAs r (place (r .sc) (m .trigger))) (r .window) (place (r .sc) (m .slot) + 1) (record { batch = empty; vote = empty })
           (omega (arith, reply-place r m f)) h
 
+      slot-here : place (r .sc) (m .slot) < replyWindow r m .len
+      slot-here = omega (arith, filled-has (appendedAs r (place (r .sc) (m .trigger))) (r .window) (place (r .sc) (m .slot) + 1))
+
       append-acts : All ActIn (appendActs r (place (r .sc) (m .slot)))
       append-acts =
           all-gather (λ k. promise (number (r .sc) k) (r .sc .«bal_prep_sent») ∷ []) ActIn (r .window .len) (place (r .sc) (m .slot) + 1) (λ _ _ _. (tt, tt))
@@ -230,12 +232,12 @@ module _ (Q : Batch → Type 0) where
       module _ (q : m .voted ≡ true → Q (m .vote .batch)) where
         heard-in : WindowIn (heardWindow r m)
         heard-in =
-            let k = slot-in (replyWindow r m) (place (r .sc) (m .slot)) (appended-has r (place (r .sc) (m .trigger)) (place (r .sc) (m .slot))) appends-in in
+            let k = slot-in (replyWindow r m) (place (r .sc) (m .slot)) slot-here appends-in in
             put-in (replyWindow r m) (place (r .sc) (m .slot)) (heardSlot (replySlot r m) m)
             (pick-cases SlotIn (adoptsVote (replySlot r m) m) (λ t. record { batch = q (and-left (m .voted) _ t); vote = k .vote }) (λ _. k)) appends-in
 
         trigger-here : place (r .sc) (m .trigger) < heardWindow r m .len
-        trigger-here = omega (arith, f .low, f .logged, appended-low r (place (r .sc) (m .trigger)) (place (r .sc) (m .slot)))
+        trigger-here = omega (arith, f .low, f .logged, filled-low (appendedAs r (place (r .sc) (m .trigger))) (r .window) (place (r .sc) (m .slot) + 1))
 
         counted-in : WindowIn (countedWindow r peer m)
         counted-in =

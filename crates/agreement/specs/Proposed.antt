@@ -23,9 +23,9 @@ use Rattle.replica.specs.Record.{newReplica}
 use Rattle.replica.specs.Messages.{clean}
 use Rattle.replica.specs.Step.{Call, step, received}
 use Rattle.voting.specs.Paper.{Majority, OnlyProposed}
-use Rattle.agreement.specs.Theorem.{Group, World, put, begin, May, timer, offer, logged, executed, opened, replied, message, refused, Reach, begins, turn, acceptEntry}
+use Rattle.agreement.specs.Theorem.{Group, Mark, World, put, begin, May, timer, offer, logged, executed, opened, replied, message, refused, Reach, begins, turn, acceptEntry}
 use Rattle.agreement.specs.OfMessages.{clean-clean}
-use Rattle.agreement.specs.Group.{each}
+use Rattle.agreement.specs.Group.{MarkOk, each, inv}
 use Rattle.agreement.specs.Worlds.{accepted, Proposed}
 use Rattle.agreement.specs.Carried.{SlotIn, WindowIn, SaysIn, ActIn, CallIn, OutcomeIn, step-in}
 
@@ -36,6 +36,10 @@ ProposedOnly = (g : Group) (w : World) (r : Reach g w) (m s ballot : ℕ) (b : B
 -- in the paper's words
 abbrev pub ProposedChosen : Type 0
 ProposedChosen = (g : Group) (w : World) (r : Reach g w) (s : ℕ) → OnlyProposed (g .size) (accepted w s) (Proposed r)
+
+-- and what a member marks
+abbrev pub ProposedMarked : Type 0
+ProposedMarked = (g : Group) (w : World) (r : Reach g w) (k : Mark) → k ∈ w .marks → Proposed r (k .batch)
 
 -- ── what is in Q is in a larger one ──
 module _ (Q Q′ : Batch → Type 0) (up : (b : Batch) → Q b → Q′ b) where
@@ -121,7 +125,7 @@ module _ (g : Group) (u : World) (r : Reach g u) (k : Known r) (m : ℕ) (p : g 
   brought c′ q (timer source) z = tt
   brought c′ q (logged d) z = tt
   brought c′ q (executed slot) z = tt
-  brought c′ q (opened id count keys) z = tt
+  brought c′ q (opened id n keys) z = tt
   brought c′ q (replied peer id f reply) z = tt
 
   stepped : OutcomeIn (Proposed after) (step (u .replica m) room c)
@@ -145,6 +149,9 @@ known g w (turn {w = u} r m p room c a) = known-step g u r (known g u r) m p roo
 
 pub proposed-only : ProposedOnly
 proposed-only g w r m s ballot b x = all-in (ActIn (Proposed r)) (known g w r .said m) x
+
+pub marked-proposed : ProposedMarked
+marked-proposed g w r k x = proposed-only g w r (k .who) (k .slot) (k .ballot) (k .batch) (all-in (MarkOk (w .did)) (inv g w r .mark) x)
 
 -- ── in the paper's words: a majority has a member ──
 some-of : (n : ℕ) (f : ℕ → Bool) → 0 < count n f → (i : ℕ) × (f i ≡ true)

@@ -244,9 +244,10 @@ late-entries =
       sent = further 10 (lateWorld .did 1) (List·Memᴰ·head refl);
     }
 
--- the same run up to its first mark; then member 0, who accepted batch 7 at 257 as a leader and told nobody, takes the Accept at 514 too
+-- the same run up to its first mark; then member 0, who accepted batch 7 at 257 as a leader and told nobody, takes the Accept at 514 too, and
+-- its log is reported durable
 unfoldable pub twice : List Turn
-twice = take 18 late ++ (gets 0 1 10 ∷ [])
+twice = take 18 late ++ (gets 0 1 10 ∷ logs 0 AcceptData 1 160 ∷ [])
 
 abbrev pub twiceWorld : World
 twiceWorld = play (begin three) twice
