@@ -2,7 +2,7 @@
 -- every call, also one that may not happen; their proofs stand below.
 use mathlib.Core.Path.{_≡_, refl, sym, _∙_, ap, subst}
 use mathlib.Core.Bool.{true}
-use mathlib.Core.List.{List, List·Memᴰ·not-nil, List·Memᴰ·eq-of-singleton}
+use mathlib.Core.List.{List, List·Memᴰ·head, List·Memᴰ·tail, List·Memᴰ·not-nil, List·Memᴰ·eq-of-singleton}
 use Prim.Native.Nat.{ℕ}
 use native.Mathlib.Omega.{arith}
 use Rattle.base.specs.Pick.{pick-cases}
@@ -18,6 +18,7 @@ use Rattle.agreement.specs.Local.{commit-earlier, commit-top}
 use Rattle.agreement.specs.OfMessages.{owns-owns}
 use Rattle.agreement.specs.Group.{viewOf, framed, inv, rises-commit}
 use Rattle.agreement.specs.Commits.{markOf}
+use Rattle.agreement.specs.Runs.{three, seven, mark, noticedWorld, noticed-reached, notice-marks}
 
 -- the marks that a call at member m makes
 abbrev pub marksBy : World → ℕ → ℕ → Call → List Mark
@@ -104,3 +105,9 @@ notice-learns g w reach m q room p b bar k x =
     let (p′, own′, z) = inv g w reach .from m (k .slot) b (k .batch) y in
     let same : p′ ≡ p = omega arith in
     record { ballot = e; owned = own; accepted = subst (λ (n : ℕ). acceptEntry (k .slot) b (k .batch) ∈ w .did n) same z }
+
+-- that it is about something: member 2 learns slot 1 from the notice of member 1, in the run `changed`
+pub notice-learned : Learned noticedWorld 1 514 (mark 2 1 514 seven)
+unfolding three
+notice-learned =
+    notice-learns three noticedWorld noticed-reached 2 refl 3456 1 514 2 (mark 2 1 514 seven) (rw (notice-marks .marks) (List·Memᴰ·tail (List·Memᴰ·head refl)))
