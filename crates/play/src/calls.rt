@@ -2,7 +2,7 @@
 ghost use mathlib.Core.Path.{_≡_};
 ghost use lib.ListN.{length};
 ghost use Rattle.replica.specs.Step.{Told, step};
-ghost use Rattle.play.specs.Play.{ownCallOf, callOf, renewed, played, playedAt};
+ghost use Rattle.play.specs.Play.{ownCallOf, callOf, renewed, playedAt};
 use crate::fields::batch_of;
 use crate::fields::done_of;
 use crate::fields::reply_of;
@@ -38,19 +38,6 @@ fn renew(r: Replica, room: &mut [u64], rec: Record) -> Handled
     kept(fresh, 0)
 }
 
-// Plays a record, given whether its sum is right.
-pub fn play(r: Replica, room: &mut [u64], rec: Record, right: bool) -> Handled
-    ensures { λ h. ⌜ Told (played r (length (now (room .entry))) rec right) h (now (room .entry)) (now (room .exit)) ⌝ }
-{
-    if is_malformed(rec, right) {
-        return kept(r, 13);
-    }
-    if rec.kind == 0 {
-        return renew(r, room, rec);
-    }
-    call(r, room, rec)
-}
-
 // Plays the record that begins at a place of lent bytes.
 pub fn play_at(r: Replica, room: &mut [u64], bytes: &[u8], at: usize) -> Handled
     ensures { λ h. ⌜ Told (playedAt r (length (now (room .entry))) (now (bytes .entry)) at) h (now (room .entry)) (now (room .exit)) ⌝ }
@@ -58,7 +45,13 @@ pub fn play_at(r: Replica, room: &mut [u64], bytes: &[u8], at: usize) -> Handled
     let step = read_at(bytes, at);
     let rec = step.read;
     let right = sum_is_right(bytes, at);
-    play(r, room, rec, right)
+    if is_malformed(rec, right) {
+        return kept(r, 13);
+    }
+    if rec.kind == 0 {
+        return renew(r, room, rec);
+    }
+    call(r, room, rec)
 }
 
 // The call of a record that names one.

@@ -5,7 +5,6 @@ mod lines;
 
 ghost use mathlib.Core.Path.{_≡_};
 ghost use Rattle.play.specs.Play.{lineOf};
-pub use calls::play;
 pub use calls::play_at;
 pub use lines::put_row;
 pub use lines::show_all;

@@ -1,4 +1,4 @@
-// Plays the records on standard input and prints a line for each. Memory is constant: at most 64 KiB are read, then played, then
+// Plays the records on standard input and prints a line for each. Memory is constant: at most 16 KiB are read, then played, then
 // their lines are written.
 ghost use Prim.Native.Nat.{_≤_};
 ghost use lib.ListN.{length};
@@ -81,10 +81,8 @@ fn play_input(start: Turn, bytes: &mut [u8], room: &mut [u64], text: &mut [u8]) 
     }
 }
 
-fn main() {
-    let mut bytes = io::large_buffer();
-    let mut room = [0u64; 3456];
-    let mut text = [0u8; 40000];
+// Before the first read: nothing is played and no replica made.
+fn begun() -> Turn {
     let none = Replica::new(0, 0, 0, 0);
     let replica = none.replica;
     let run = Run {
@@ -92,10 +90,17 @@ fn main() {
         place: 0,
         replica: replica,
     };
-    let start = Turn {
+    Turn {
         run: run,
         have: 0,
         going: true,
-    };
+    }
+}
+
+fn main() {
+    let mut bytes = [0u8; 16384];
+    let mut room = [0u64; 3456];
+    let mut text = [0u8; 10000];
+    let start = begun();
     play_input(start, &mut bytes, &mut room, &mut text);
 }

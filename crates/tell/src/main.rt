@@ -52,7 +52,7 @@ fn told(t: Turn, room: &mut [u64], bytes: &[u8], at: usize, text: &mut [u8]) -> 
     }
     let run = t.run;
     let after = tell_at(run, room, bytes, at, text);
-    if after.place < 100000 {
+    if after.place < 30000 {
         return Turn {
             run: after,
             have: 0,
@@ -123,10 +123,8 @@ fn play_input(start: Turn, bytes: &mut [u8], room: &mut [u64], text: &mut [u8]) 
     }
 }
 
-fn main() {
-    let mut bytes = io::large_buffer();
-    let mut room = [0u64; 3456];
-    let mut text = [0u8; 262144];
+// Before the first read: nothing is played and no replica made.
+fn begun() -> Turn {
     let none = Replica::new(0, 0, 0, 0);
     let replica = none.replica;
     let run = Run {
@@ -134,10 +132,17 @@ fn main() {
         place: 0,
         replica: replica,
     };
-    let start = Turn {
+    Turn {
         run: run,
         have: 0,
         going: true,
-    };
+    }
+}
+
+fn main() {
+    let mut bytes = [0u8; 16384];
+    let mut room = [0u64; 3456];
+    let mut text = [0u8; 180000];
+    let start = begun();
     play_input(start, &mut bytes, &mut room, &mut text);
 }
