@@ -97,6 +97,7 @@ fn begun() -> Turn {
     }
 }
 
+// 64 records at a time, and 147 bytes of text for the line of each.
 fn main() {
     let mut bytes = [0u8; 16384];
     let mut room = [0u64; 3456];
