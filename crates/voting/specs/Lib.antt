@@ -21,3 +21,4 @@ pub mod Speaking
 pub mod Ballots
 pub mod Differences
 pub mod Met
+pub mod Implied
