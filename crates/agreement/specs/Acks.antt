@@ -31,7 +31,7 @@ use Rattle.voting.specs.Reached.{Good, good-new, good-step}
 use Rattle.voting.specs.Quorums.{commitOf, acksOf, Committed, commit-by-reply, commit-by-own}
 use Rattle.voting.specs.Backing.{stands, Stood, AcceptAck, accept-came, accept-own, acks-step}
 use Rattle.voting.specs.Speaking.{SaidOf, OnCompletion, says-ok}
-use Rattle.agreement.specs.Theorem.{Group, World, slotOf, upd, put, begin, May, timer, offer, logged, executed, opened, replied, message, refused, Reach, begins, turn, acceptEntry}
+use Rattle.agreement.specs.Theorem.{Group, World, slotOf, upd, put, begin, May, timer, offer, logged, execution, opening, replied, message, refused, Reach, begins, turn, acceptEntry}
 use Rattle.agreement.specs.Group.{each, old, inv, good-in}
 
 -- ── what is said ──
@@ -93,8 +93,8 @@ reply-sent w m room _ (refused c n k) p s b q = inr (n, refusals-keep (w .replic
 reply-sent w m room _ (timer source) p s b q = absurd (clash (ap isReply q) refl)
 reply-sent w m room _ (offer x) p s b q = absurd (clash (ap isReply q) refl)
 reply-sent w m room _ (logged d) p s b q = absurd (clash (ap isReply q) refl)
-reply-sent w m room _ (executed slot) p s b q = absurd (clash (ap isReply q) refl)
-reply-sent w m room _ (opened id count keys) p s b q = absurd (clash (ap isReply q) refl)
+reply-sent w m room _ (execution slot) p s b q = absurd (clash (ap isReply q) refl)
+reply-sent w m room _ (opening id count keys) p s b q = absurd (clash (ap isReply q) refl)
 reply-sent w m room _ (replied peer id f reply) p s b q = absurd (clash (ap isReply q) refl)
 
 -- ── every present member is as voting's theorems want it ──

@@ -37,7 +37,7 @@ use Rattle.replica.specs.Record.{Outcome, kept, place, number, logEnd}
 use Rattle.replica.specs.Messages.{clean, downActs, prepareBook, prepareStep, acceptStep, acceptReplyStep, appendActs, appendedAs, replyOn, cleanReply, prepareReplyStep}
 use Rattle.replica.specs.Leadership.{timeoutStep, commitNoticeStep}
 use Rattle.replica.specs.Durability.{movedAccept, passStop, loggedOn, loggedStep}
-use Rattle.replica.specs.Quorumread.{openReadStep, readAct, readReplyStep}
+use Rattle.replica.specs.Quorumread.{openReadStep, answerAct, readReplyStep}
 use Rattle.replica.specs.Added.{offerStep, movedExec, executedStep}
 use Rattle.replica.specs.Step.{Call, callPrepare, callPrepareReply, callAccept, callAcceptReply, callCommitNotice, callTimeout, callLogged, callOffer, callExecuted, callOpenRead, callReadReply, step}
 use Rattle.laws.specs.Leaves.{done}
@@ -308,7 +308,7 @@ module _ (Q : Batch → Type 0) where
         (λ f k. record { window = h; acts = tt })
       where
         answered : (d : Read) (n : ℕ) → OutcomeIn (closed r (readPlace r id) d n)
-        answered d n = record { window = h; acts = all-gather (λ k. readAct (r .sc .leader) d k ∷ []) ActIn 0 n (λ _ _ _. (tt, tt)) }
+        answered d n = record { window = h; acts = all-gather (λ k. answerAct (r .sc .leader) d k ∷ []) ActIn 0 n (λ _ _ _. (tt, tt)) }
 
     -- ── log completions: of a replica with the size of its log ──
     passed-in : OutcomeIn (passed r)

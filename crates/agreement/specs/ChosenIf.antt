@@ -35,13 +35,10 @@ use Rattle.agreement.specs.Theorem.{Group, World, slotOf, put, begin, Ma
 use Rattle.agreement.specs.Frame.{Marked, ActOk}
 use Rattle.agreement.specs.Group.{viewOf, each, old, cases, inv, good-in, framed, agreement-of}
 use Rattle.agreement.specs.Commits.{numbered-here}
+use Rattle.agreement.specs.Worlds.{accepted}
 use Rattle.agreement.specs.Acks.{Replied, Truthful, reply-sent, fine-in, acks-sent}
 
 -- ── what is said ──
--- member m has accepted the proposal v for slot s: its accept entry is in m's log
-abbrev pub AcceptedIn : World → ℕ → ℕ → Vote → Type 0
-AcceptedIn w s m v = acceptEntry s (v .ballot) (v .batch) ∈ w .did m
-
 -- the proposal that slot s of member l holds
 abbrev pub heldBy : World → ℕ → ℕ → Vote
 heldBy w l s = record { ballot = slotOf (w .replica l) s .ballot; batch = slotOf (w .replica l) s .batch }
@@ -128,7 +125,7 @@ module _ (g : Group) (w : World) (reach : Reach g w) (l : ℕ) (pres : g .presen
         go (inl e) = subst (λ (n : ℕ). (n ≡ l) ⊎ Replied w n s (heldBy w l s .ballot)) (sym e) last
         go (inr k) = before (acks-sent g w reach l pres (place (r .sc) s) m (record { leading = c .leading; same = refl; at = at-sent }) k)
 
-    is-chosen : Truthful reach → Chosen (g .size) (AcceptedIn w s) (heldBy w l s)
+    is-chosen : Truthful reach → Chosen (g .size) (accepted w s) (heldBy w l s)
     is-chosen t = (
       acksOf w′ (place (r .sc) s),
       subst (λ (n : ℕ). Majority n (acksOf w′ (place (r .sc) s))) (sized-in g w reach l pres) (c .majority),
@@ -138,19 +135,19 @@ module _ (g : Group) (w : World) (reach : Reach g w) (l : ℕ) (pres : g .presen
         own : acceptEntry s (heldBy w l s .ballot) (heldBy w l s .batch) ∈ w .did l
         own = inv g w reach .local l pres .voted s (ap (λ (v : Slot). v .status) here ∙ c .accepts)
 
-        same : (m : ℕ) → HasEntry w m s (heldBy w l s .ballot) → AcceptedIn w s m (heldBy w l s)
+        same : (m : ℕ) → HasEntry w m s (heldBy w l s .ballot) → accepted w s m (heldBy w l s)
         same m (e, h) =
             subst (λ (b : Batch). acceptEntry s (heldBy w l s .ballot) b ∈ w .did m)
             (agreement-of (inv g w reach) .one-batch m l s s (heldBy w l s .ballot) (heldBy w l s .ballot) e (heldBy w l s .batch) h own refl refl) h
 
-        go : (m : ℕ) → (m ≡ l) ⊎ Replied w m s (heldBy w l s .ballot) → AcceptedIn w s m (heldBy w l s)
-        go m (inl e) = subst (λ (n : ℕ). AcceptedIn w s n (heldBy w l s)) (sym e) own
+        go : (m : ℕ) → (m ≡ l) ⊎ Replied w m s (heldBy w l s .ballot) → accepted w s m (heldBy w l s)
+        go m (inl e) = subst (λ (n : ℕ). accepted w s n (heldBy w l s)) (sym e) own
         go m (inr x) = same m (truthful-entry g w reach t m s (heldBy w l s .ballot) x)
 
   low-of : (room : ℕ) (c : Call) → commitOf s ∈ step r room c .actions → r .sc .start ≤ s
   low-of room c h =
       let k = framed g w reach l pres room c in
-      let m : Marked (viewOf r .slot s) (viewOf (step r room c .replica) .slot s) =
+      let m : Marked (viewOf r .slot s) (viewOf (step r room c .replica) .slot s) (viewOf (step r room c .replica) .seen) =
       all-in (ActOk (viewOf r) c (viewOf (step r room c .replica)) (step r room c .actions)) (k .said) h in
       numbered-here (r .sc .start) (r .window) s (omega (arith, m .was)) .0
 
@@ -176,7 +173,7 @@ module _ (g : Group) (w : World) (reach : Reach g w) (l : ℕ) (pres : g .presen
     commit-replied = all-replied p (o .replica .window) (low-of room (callAcceptReply p s ballot) h) committed-now last-replied
 
     -- and in a truthful run what it commits is chosen
-    pub commit-chosen : Truthful reach → Chosen (g .size) (AcceptedIn w s) (heldBy w l s)
+    pub commit-chosen : Truthful reach → Chosen (g .size) (accepted w s) (heldBy w l s)
     commit-chosen = is-chosen p (o .replica .window) (low-of room (callAcceptReply p s ballot) h) committed-now last-replied
 
   -- by the leader's own AcceptData entry
@@ -190,5 +187,5 @@ module _ (g : Group) (w : World) (reach : Reach g w) (l : ℕ) (pres : g .presen
     pub own-commit-replied : AllReplied w l s (acksOf (own-o .replica .window) (place (r .sc) s))
     own-commit-replied = all-replied (r .sc .id) (own-o .replica .window) (low-of room (callLogged (record { entry = AcceptData; slot = s; size = offset })) h) own-now (inl (inv g w reach .local l pres .id))
 
-    pub own-commit-chosen : Truthful reach → Chosen (g .size) (AcceptedIn w s) (heldBy w l s)
+    pub own-commit-chosen : Truthful reach → Chosen (g .size) (accepted w s) (heldBy w l s)
     own-commit-chosen = is-chosen (r .sc .id) (own-o .replica .window) (low-of room (callLogged (record { entry = AcceptData; slot = s; size = offset })) h) own-now (inl (inv g w reach .local l pres .id))

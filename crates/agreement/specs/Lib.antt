@@ -12,11 +12,11 @@ pub mod Group
 pub mod Commits
 pub mod Written
 pub mod Runs
+pub mod Learning
+pub mod Worlds
 pub mod Acks
 pub mod ChosenIf
 pub mod Truth
-pub mod Learning
-pub mod Worlds
 pub mod Unsafe
 pub mod Carried
 pub mod Proposed

@@ -23,7 +23,7 @@ use Rattle.replica.specs.Record.{newReplica}
 use Rattle.replica.specs.Messages.{clean}
 use Rattle.replica.specs.Step.{Call, step, received}
 use Rattle.voting.specs.Paper.{Majority, OnlyProposed}
-use Rattle.agreement.specs.Theorem.{Group, Mark, World, put, begin, May, timer, offer, logged, executed, opened, replied, message, refused, Reach, begins, turn, acceptEntry}
+use Rattle.agreement.specs.Theorem.{Group, Mark, World, put, begin, May, timer, offer, logged, execution, opening, replied, message, refused, Reach, begins, turn, acceptEntry}
 use Rattle.agreement.specs.OfMessages.{clean-clean}
 use Rattle.agreement.specs.Group.{MarkOk, each, inv}
 use Rattle.agreement.specs.Worlds.{accepted, Proposed}
@@ -124,8 +124,8 @@ module _ (g : Group) (u : World) (r : Reach g u) (k : Known r) (m : ℕ) (p : g 
   brought c′ q (refused _ n _) z = absurd (n z)
   brought c′ q (timer source) z = tt
   brought c′ q (logged d) z = tt
-  brought c′ q (executed slot) z = tt
-  brought c′ q (opened id n keys) z = tt
+  brought c′ q (execution slot) z = tt
+  brought c′ q (opening id n keys) z = tt
   brought c′ q (replied peer id f reply) z = tt
 
   stepped : OutcomeIn (Proposed after) (step (u .replica m) room c)

@@ -36,7 +36,7 @@ use Rattle.replica.specs.declared.Entry.the-variants.{PrepareBal as PrepareEntr
 use Rattle.replica.specs.Record.{Outcome, place, number, logEnd}
 use Rattle.replica.specs.Messages.{clean, cleanReply, downActs}
 use Rattle.replica.specs.Durability.{noticeActs, passStop, loggedOn}
-use Rattle.replica.specs.Quorumread.{readAct}
+use Rattle.replica.specs.Quorumread.{answerAct}
 use Rattle.replica.specs.Added.{movedExec}
 use Rattle.replica.specs.Step.{Call, callPrepare, callPrepareReply, callAccept, callAcceptReply, callCommitNotice, callTimeout, callLogged, callOffer, callExecuted, callOpenRead, callReadReply, step}
 use Rattle.laws.specs.OfFit.{fit-facts}
@@ -105,8 +105,8 @@ module _ (r : Replica) (c : Call) where
   passes-ok : (slot : ℕ) (s : Slot) → Says-ok (passActs slot s)
   passes-ok slot s = pick-both Says-ok (eqb (s .batch .id) 0 || not (eqb (s .status) committed)) tt (tt, tt)
 
-  answers-ok : (d : Read) (n : ℕ) → Says-ok (gather (λ k. readAct (r .sc .leader) d k ∷ []) 0 n)
-  answers-ok d n = all-gather (λ k. readAct (r .sc .leader) d k ∷ []) ok 0 n (λ i l u. (tt, tt))
+  answers-ok : (d : Read) (n : ℕ) → Says-ok (gather (λ k. answerAct (r .sc .leader) d k ∷ []) 0 n)
+  answers-ok d n = all-gather (λ k. answerAct (r .sc .leader) d k ∷ []) ok 0 n (λ i l u. (tt, tt))
 
   notice-ok : (sc : Scalars) (bar end : ℕ) → Says-ok (noticeActs sc bar end)
   notice-ok sc bar end = pick-both Says-ok (notifies sc bar end) (tt, tt) tt
