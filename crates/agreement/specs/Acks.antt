@@ -2,37 +2,32 @@
 -- ballot, or is the leader itself; and the batch is chosen, as the paper has it, where each such reply came from a slot that was Accepting then.
 use mathlib.Core.Path.{_≡_, refl, sym, ap, subst, _∙_}
 use mathlib.Core.Bool.{Bool, true, false}
-use mathlib.Core.List.{List, [], _∷_, List·Memᴰ·not-nil, List·Memᴰ·eq-of-singleton}
+use mathlib.Core.List.{List, List·Memᴰ·not-nil, List·Memᴰ·eq-of-singleton}
 use mathlib.Core.Logic.{_⊎_, inl, inr}
-use Prim.Native.Nat.{ℕ, _+_, _≤_, _<_}
+use Prim.Native.Nat.{ℕ, _+_}
 use native.Mathlib.Omega.{arith}
 use lib.Dec.{ltb}
 use borrow.Author.Tests.{ltb-true, ne-eqb}
 use Rattle.base.specs.Pick.{pick-cases, and-both, clash}
-use Rattle.base.specs.Among.{_∈_, all-in}
-use Rattle.members.specs.Sets.{has, insert}
+use Rattle.base.specs.Among.{_∈_}
+use Rattle.members.specs.Sets.{has}
 use Rattle.members.specs.Groups.{groupSize}
 use Rattle.members.specs.Laws.{group-bounds}
-use Rattle.batch.specs.declared.Batch.{Batch}
 use Rattle.actions.specs.declared.Action.{Action}
 use Rattle.actions.specs.declared.Accepted.{Accepted}
 use Rattle.actions.specs.declared.Action.the-variants.{PrepareBal, AcceptData, CommitSlot, Prepare, PrepareReply, Accept, AcceptReply, CommitNotice, Heartbeat, StatusUp, StatusDown, Execute, ReadAnswer}
 use Rattle.actions.specs.Actions.{Act}
-use Rattle.slots.specs.declared.Vote.{Vote}
 use Rattle.slots.specs.Slots.{accepting}
 use Rattle.decide.specs.Scalars.{leads, mayBe}
 use Rattle.replica.specs.declared.Replica.{Replica}
 use Rattle.replica.specs.declared.Made.{Made}
-use Rattle.replica.specs.Record.{Outcome, newReplica, fresh, zeroReplica, place, number}
+use Rattle.replica.specs.Record.{Outcome, newReplica, fresh, zeroReplica, number}
 use Rattle.replica.specs.Step.{Call, callPrepare, callPrepareReply, callAccept, callAcceptReply, callCommitNotice, callTimeout, callLogged, callOffer, callExecuted, callOpenRead, callReadReply, step, received}
 use Rattle.laws.specs.Theorems.{refusals-keep, start-stays}
-use Rattle.voting.specs.Paper.{Majority, Chosen}
 use Rattle.voting.specs.Reached.{Good, good-new, good-step}
-use Rattle.voting.specs.Quorums.{commitOf, acksOf, Committed, commit-by-reply, commit-by-own}
 use Rattle.voting.specs.Backing.{stands, Stood, AcceptAck, accept-came, accept-own, acks-step}
-use Rattle.voting.specs.Speaking.{SaidOf, OnCompletion, says-ok}
-use Rattle.agreement.specs.Theorem.{Group, World, slotOf, upd, put, begin, May, timer, offer, logged, execution, opening, replied, message, refused, Reach, begins, turn, acceptEntry}
-use Rattle.agreement.specs.Group.{each, old, inv, good-in}
+use Rattle.agreement.specs.Theorem.{Group, World, slotOf, put, begin, May, timer, offer, logged, execution, opening, replied, message, refused, Reach, begins, turn}
+use Rattle.agreement.specs.Group.{each, old, inv}
 
 -- ── what is said ──
 -- member p has sent an AcceptReply for slot s at this ballot

@@ -1,23 +1,20 @@
 -- 2.2: a batch that a leader commits by replies, or by its own completion, is chosen where the run is truthful: then a majority has its accept entry.
 use mathlib.Core.Path.{_≡_, refl, sym, ap, subst, _∙_}
 use mathlib.Core.Bool.{true}
-use mathlib.Core.List.{List, [], _∷_, List·Memᴰ·not-nil}
+use mathlib.Core.List.{List, List·Memᴰ·not-nil}
 use mathlib.Core.Logic.{_⊎_, inl, inr}
-use Prim.Native.Nat.{ℕ, _+_, _-_, _≤_, _<_}
+use Prim.Native.Nat.{ℕ, _+_, _-_, _≤_}
 use native.Mathlib.Omega.{arith}
-use lib.Dec.{eqb}
 use Rattle.base.specs.Pick.{pick-cases}
 use Rattle.base.specs.Among.{_∈_, all-in}
-use Rattle.members.specs.Sets.{has, insert}
+use Rattle.members.specs.Sets.{has}
 use Rattle.batch.specs.declared.Batch.{Batch}
 use Rattle.actions.specs.declared.Action.{Action}
-use Rattle.actions.specs.declared.Accepted.{Accepted}
 use Rattle.actions.specs.declared.Action.the-variants.{AcceptReply}
 use Rattle.actions.specs.Actions.{Act}
 use Rattle.slots.specs.declared.Vote.{Vote}
 use Rattle.slots.specs.declared.Slot.{Slot}
-use Rattle.slots.specs.Slots.{accepting}
-use Rattle.decide.specs.Scalars.{leads, mayBe}
+use Rattle.decide.specs.Scalars.{mayBe}
 use Rattle.window.specs.declared.Window.{Window}
 use Rattle.window.specs.ByPlace.{atPlace}
 use Rattle.replica.specs.declared.Replica.{Replica}
@@ -28,7 +25,7 @@ use Rattle.replica.specs.Step.{Call, callAcceptReply, callLogged, step}
 use Rattle.laws.specs.Theorems.{refusals-silent, group-stays}
 use Rattle.voting.specs.Paper.{Majority, Chosen}
 use Rattle.voting.specs.Quorums.{commitOf, acksOf, Committed, commit-at, commit-by-reply, commit-by-own}
-use Rattle.voting.specs.Backing.{stands, Stood, insert-or}
+use Rattle.voting.specs.Backing.{insert-or}
 use Rattle.voting.specs.Speaking.{SaidOf, OnCompletion, says-ok}
 use Rattle.agreement.specs.BySlot.{numbered, numbered-at}
 use Rattle.agreement.specs.Theorem.{Group, World, slotOf, put, begin, May, Reach, begins, turn, acceptEntry}

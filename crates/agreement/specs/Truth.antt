@@ -1,5 +1,5 @@
 -- The condition of ChosenIf is met by a run with a change of leader, and not by the run that marks one slot twice: computed.
-use mathlib.Core.Path.{_≡_, refl, sym, ap, subst}
+use mathlib.Core.Path.{_≡_, refl, sym, subst}
 use mathlib.Core.Bool.{Bool, true, false, _&&_}
 use mathlib.Core.List.{List, [], _∷_, List·Memᴰ·head, List·Memᴰ·tail}
 use mathlib.Core.Logic.{_⊎_, inl, inr}
@@ -27,7 +27,6 @@ use Rattle.replica.specs.Quorumread.{openReadStep, repliedStep, readReplyStep}
 use Rattle.replica.specs.Added.{offerStep, movedExec, executedStep}
 use Rattle.base.specs.Pick.{and-left, and-right}
 use Rattle.base.specs.Among.{_∈_}
-use Rattle.batch.specs.declared.Batch.{Batch}
 use Rattle.batch.specs.Batches.{makeBatch}
 use Rattle.actions.specs.declared.Action.{Action}
 use Rattle.actions.specs.declared.Accepted.{Accepted}

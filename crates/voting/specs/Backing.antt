@@ -1,23 +1,21 @@
 -- Who stands behind the sets of a leader's bookkeeping. A slot is at the leader's ballot where its ballot is bal_prep_sent; each member in such a
 -- slot's prepare_acks or accept_acks answered at this ballot: its reply arrived, or it is self and its entry is durable.
 use mathlib.Core.Path.{_≡_, refl, sym, ap, subst, _∙_}
-use mathlib.Core.Bool.{Bool, true, false, _||_}
+use mathlib.Core.Bool.{true, false}
 use mathlib.Core.List.{List, [], _∷_}
 use mathlib.Core.Logic.{_⊎_, inl, inr}
 use Prim.Native.Nat.{ℕ, _+_, _≤_, _<_}
 use native.Mathlib.Omega.{arith}
 use lib.Dec.{ltb, leb, eqb}
-use borrow.Author.Tests.{ltb-true, ltb-false, eqb-true, eq-eqb}
-use Rattle.base.specs.Pick.{pick-both, pick-cases, decide, clash, or-cases}
+use borrow.Author.Tests.{ltb-true, ltb-false, eqb-true}
+use Rattle.base.specs.Pick.{pick-both, decide, clash, or-cases}
 use Rattle.members.specs.Sets.{has, insert}
-use Rattle.members.specs.Ballots.{owns}
-use Rattle.members.specs.Laws.{has-none, has-member, has-insert, insert-full, insert-past, owners-same}
+use Rattle.members.specs.Laws.{has-none, has-member, has-insert, insert-full, insert-past}
 use Rattle.batch.specs.declared.Batch.{Batch}
 use Rattle.slots.specs.declared.Slot.{Slot}
-use Rattle.slots.specs.Slots.{nullSlot, newBook, redoneSlot, preparing, committed, executed, withState, withLeader, withExternal, enteredSlot, markedSlot, passedSlot, loggedSlot, countedSlot, acknowledgedSlot, committedSlot, appendedSlot}
-use Rattle.decide.specs.declared.Scalars.{Scalars}
+use Rattle.slots.specs.Slots.{nullSlot, newBook, redoneSlot, preparing, committed, executed, withState, withLeader, withExternal, enteredSlot, markedSlot, passedSlot, loggedSlot, acknowledgedSlot}
 use Rattle.decide.specs.declared.Reply.{Reply}
-use Rattle.decide.specs.Scalars.{leads, following, followed}
+use Rattle.decide.specs.Scalars.{leads}
 use Rattle.decide.specs.Decide.{decideOffer}
 use Rattle.window.specs.declared.Window.{Window}
 use Rattle.window.specs.Window.{slotAt, putSlot, firstOpen}
@@ -26,17 +24,17 @@ use Rattle.window.specs.ByPlace.{atPlace, at-here, put-cases, put-keeps, sweep-
 use Rattle.replica.specs.declared.Replica.{Replica}
 use Rattle.replica.specs.declared.Done.{Done}
 use Rattle.replica.specs.declared.Entry.{Entry}
-use Rattle.replica.specs.declared.Entry.the-variants.{PrepareBal, AcceptData, CommitSlot as CommitEntry}
+use Rattle.replica.specs.declared.Entry.the-variants.{PrepareBal, AcceptData}
 use Rattle.replica.specs.Record.{place, number}
 use Rattle.replica.specs.Messages.{cleanReply}
 use Rattle.replica.specs.Durability.{passStop, loggedOn}
 use Rattle.replica.specs.Added.{movedExec}
 use Rattle.replica.specs.Step.{Call, callPrepare, callPrepareReply, callAccept, callAcceptReply, callCommitNotice, callTimeout, callLogged, callOffer, callExecuted, callOpenRead, callReadReply, step}
 use Rattle.laws.specs.OfFit.{fit-facts}
-use Rattle.laws.specs.WaysMessages.{Peer, Replies, prepareStep-ways, acceptStep-ways, acceptReplyStep-ways, repliedSlot}
+use Rattle.laws.specs.WaysMessages.{Replies, prepareStep-ways, acceptStep-ways, acceptReplyStep-ways, repliedSlot}
 use Rattle.laws.specs.WaysReply.{replyWindow, replySlot, heardWindow, countedWindow, triggerSlot, Answers, reply-place}
 use Rattle.laws.specs.WaysLeadership.{leadWindow, leadTrigger, leadEnd, leadFrom, led, Leads, timeoutStep-ways, markWindow, markFrom, markEnd, commitNoticeStep-ways, leads-up}
-use Rattle.laws.specs.WaysDurability.{logged, loggedAt, Logs, passFrom}
+use Rattle.laws.specs.WaysDurability.{logged, Logs, passFrom}
 use Rattle.laws.specs.WaysAdded.{offerWindow, Offers, offered, offerStep-ways, executedStep-ways}
 use Rattle.laws.specs.Appended.{appended-cases, appended-low}
 use Rattle.voting.specs.Windows.{Whole, whole-put}
@@ -45,7 +43,7 @@ use Rattle.voting.specs.History.{Lent, told, play}
 use Rattle.voting.specs.Claims.{Claim, of, open-read-way, read-reply-way}
 use Rattle.voting.specs.Replying.{enteredWindow, ReplyWays, prepare-reply-way, map-reply}
 use Rattle.voting.specs.Logging.{ownAnswer, LogWays, logged-way}
-use Rattle.voting.specs.Reached.{Good, good-step}
+use Rattle.voting.specs.Reached.{Good, good-step, follows-none}
 
 -- ── how a member gets into a set of the slot at place i, by a call at r ──
 -- 2.2, phase 2 (a): "a response .. from a majority": p's PrepareReply at bal_prep_sent, for the slot as its trigger; or self's own PrepareBal entry
@@ -189,19 +187,6 @@ module _ (r : Replica) (peer : ℕ) (m : Reply) (P A : ℕ → Type 0) (i : ℕ)
       }
 
 -- ── the other calls ──
--- who follows a peer does not lead: its ballot would be owned by two, or another would lead
-pub follows-none : (r : Replica) (peer ballot : ℕ) → Good (r .sc) (r .window) → Peer (r .sc) peer → owns ballot peer ≡ true → r .sc .«bal_max_seen» ≤ ballot
-    → leads (followed (r .sc) peer ballot) ≡ true → ⊥
-follows-none r peer ballot g p o s =
-    pick-cases (λ (x : Scalars). leads x ≡ true → ⊥) (ltb (r .sc .«bal_max_seen») ballot)
-    {a = following (r .sc) peer ballot}
-    {b = r .sc}
-    (λ t e. p .other (eqb-true peer (r .sc .id) e))
-    (λ t e.
-    let own = g .leading e in
-    let same : ballot ≡ r .sc .«bal_prep_sent» = (let x = ltb-false (r .sc .«bal_max_seen») ballot t in let z = own .0 in omega arith) in
-    p .other (owners-same ballot peer (r .sc .id) o (subst (λ (x : ℕ). owns x (r .sc .id) ≡ true) (sym same) (own .1))))
-
 -- a step-up: nobody is in the sets of a slot that has the new ballot
 redone-fresh : (r : Replica) (P A : ℕ → Type 0) (i b trigger endprep : ℕ) (s : Slot) → s .ballot < b
     → redoneSlot b (newBook trigger endprep) s .ballot ≡ b → Backed r P A i b (standing (redoneSlot b (newBook trigger endprep) s))

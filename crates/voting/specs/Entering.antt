@@ -27,7 +27,7 @@ use Rattle.replica.specs.Messages.{cleanReply}
 use Rattle.replica.specs.Step.{callPrepareReply, callLogged, step}
 use Rattle.laws.specs.OfFit.{fit-facts}
 use Rattle.laws.specs.Counts.{counted-long}
-use Rattle.laws.specs.WaysReply.{replyWindow, heardWindow, countedWindow, Answers, reply-place}
+use Rattle.laws.specs.WaysReply.{countedWindow, Answers, reply-place}
 use Rattle.laws.specs.WaysDurability.{Logs, logged, other-entry}
 use Rattle.laws.specs.Appended.{appended-most}
 use Rattle.voting.specs.Windows.{Whole, whole-put}
@@ -53,19 +53,20 @@ Entered r ballot w x =
 abbrev enters : Replica → ℕ → Claim
 enters r ballot a sc w acts = (x : Act) → x ∈ acts → kindOf x ≡ 6 → Entered r ballot w x
 
-silent-enters : (r : Replica) (ballot : ℕ) (w : Window) (x : Act) → x ∈ [] → kindOf x ≡ 6 → Entered r ballot w x
-silent-enters r ballot w x m k = absurd (List·Memᴰ·not-nil m)
+-- no Accept is among these: none at all; one of another kind; the entries of slots that a reply appends
+pub none-sent : {A : Type 0} (x : Act) → x ∈ [] → kindOf x ≡ 6 → A
+none-sent x o k = absurd (List·Memᴰ·not-nil o)
 
-other-enters : (r : Replica) (ballot : ℕ) (w : Window) (y x : Act) → (kindOf y ≡ 6 → ⊥) → x ∈ (y ∷ []) → kindOf x ≡ 6 → Entered r ballot w x
-other-enters r ballot w y x n m k = absurd (n (sym (ap kindOf (List·Memᴰ·eq-of-singleton m)) ∙ k))
+pub other-sent : {A : Type 0} (y x : Act) → (kindOf y ≡ 6 → ⊥) → x ∈ (y ∷ []) → kindOf x ≡ 6 → A
+other-sent y x n o k = absurd (n (sym (ap kindOf (List·Memᴰ·eq-of-singleton o)) ∙ k))
+
+pub appends-none : {A : Type 0} (r : Replica) (m : Reply) (x : Act) → x ∈ replyActs r m → kindOf x ≡ 6 → A
+appends-none {A} r m x o k = go (gather-in (λ i. promise (number (r .sc) i) (r .sc .«bal_prep_sent») ∷ []) (r .window .len) (place (r .sc) (m .slot) + 1) o)
+  where
+    go : (i : ℕ) × (r .window .len ≤ i) × (i < place (r .sc) (m .slot) + 1) × (x ∈ (promise (number (r .sc) i) (r .sc .«bal_prep_sent») ∷ [])) → A
+    go (i, lo, hi, o) = other-sent _ x (λ z. omega arith) o k
 
 module _ (r : Replica) (peer : ℕ) (m : Reply) (h : Whole (r .window)) (n : r .window .len ≤ 64) where
-  appends : (w : Window) (x : Act) → x ∈ replyActs r m → kindOf x ≡ 6 → Entered r (m .ballot) w x
-  appends w x o k = go (gather-in (λ i. promise (number (r .sc) i) (r .sc .«bal_prep_sent») ∷ []) (r .window .len) (place (r .sc) (m .slot) + 1) o)
-    where
-      go : (i : ℕ) × (r .window .len ≤ i) × (i < place (r .sc) (m .slot) + 1) × (x ∈ (promise (number (r .sc) i) (r .sc .«bal_prep_sent») ∷ [])) → Entered r (m .ballot) w x
-      go (i, lo, hi, o) = other-enters r (m .ballot) w _ x (λ z. omega arith) o k
-
   -- the slot at place i, Preparing before, is Accepting after, with its batch
   enters-at : Answers r m → (i : ℕ) → place (r .sc) (m .trigger) ≤ i → i < countedWindow r peer m .len → slotAt (countedWindow r peer m) i .status ≡ preparing
       → (x : Act) → x ≡ act (Accept (proposal (number (r .sc) i) (m .ballot) (slotAt (countedWindow r peer m) i .batch))) (slotAt (countedWindow r peer m) i .batch .keys)
@@ -87,7 +88,7 @@ module _ (r : Replica) (peer : ℕ) (m : Reply) (h : Whole (r .window)) (n : r .
   enter-one f x i lo hi =
       pick-cases (λ (l : List Act). x ∈ l → kindOf x ≡ 6 → Entered r (m .ballot) (enteredWindow r peer m) x) (eqb (slotAt (countedWindow r peer m) i .status) preparing)
       (λ t o k. two (eqb-true _ _ t) (List·Memᴰ·cases-cons o) k)
-      (λ t o k. silent-enters r (m .ballot) (enteredWindow r peer m) x o k)
+      (λ t o k. none-sent x o k)
     where
       two : slotAt (countedWindow r peer m) i .status ≡ preparing
           → (x ≡ act (AcceptData (proposal (number (r .sc) i) (m .ballot) (slotAt (countedWindow r peer m) i .batch))) (slotAt (countedWindow r peer m) i .batch .keys))
@@ -99,14 +100,14 @@ module _ (r : Replica) (peer : ℕ) (m : Reply) (h : Whole (r .window)) (n : r .
   reply-enters : ReplyWays (enters r (m .ballot)) r peer m
   reply-enters =
       record {
-        passed = λ f t x o k. appends (replyWindow r m) x o k;
-        heard = λ f w x o k. appends (heardWindow r m) x o k;
-        counted = λ f w x o k. appends (countedWindow r peer m) x o k;
+        passed = λ f t x o k. appends-none r m x o k;
+        heard = λ f w x o k. appends-none r m x o k;
+        counted = λ f w x o k. appends-none r m x o k;
         entered = λ f w q x o k. both f x k (List·Memᴰ·append-cases (replyActs r m) o);
       }
     where
       both : Answers r m → (x : Act) → kindOf x ≡ 6 → (x ∈ replyActs r m) ⊎ (x ∈ entersActs r peer m) → Entered r (m .ballot) (enteredWindow r peer m) x
-      both f x k (inl o) = appends (enteredWindow r peer m) x o k
+      both f x k (inl o) = appends-none r m x o k
       both f x k (inr o) = go (gather-in (λ i. enterActs (number (r .sc) i) (m .ballot) (slotAt (countedWindow r peer m) i)) (place (r .sc) (m .trigger)) (countedWindow r peer m .len) o)
         where
           go : (i : ℕ) × (place (r .sc) (m .trigger) ≤ i) × (i < countedWindow r peer m .len) × (x ∈ enterActs (number (r .sc) i) (m .ballot) (slotAt (countedWindow r peer m) i))
@@ -118,7 +119,7 @@ pub reply-enters-with : (r : Replica) (room peer : ℕ) (m : Reply) → Whole (r
     → Entered r (m .ballot) (step r room (callPrepareReply peer m) .replica .window) x
 unfolding of
 reply-enters-with r room peer m h =
-    prepare-reply-way (enters r (m .ballot)) r room peer m (λ a l u. silent-enters r (m .ballot) (r .window))
+    prepare-reply-way (enters r (m .ballot)) r room peer m (λ a l u x o k. none-sent x o k)
     (λ f. reply-enters r peer (cleanReply m) h (fit-facts r (f .fits) .numbers .window))
 
 own-enters : (r : Replica) (slot size : ℕ) → Whole (r .window) → Logs r (record { entry = PrepareBal; slot = slot; size = size })
@@ -128,9 +129,9 @@ own-enters r slot size h f =
     let d : Done = record { entry = PrepareBal; slot = slot; size = size } in
     let b : ℕ = ownAnswer r (record { entry = PrepareBal; slot = slot; size = size }) .ballot in
     record {
-      only = λ u. silent-enters r b _;
+      only = λ u x o k. none-sent x o k;
       own = λ e o. reply-enters (logged r d) (r .sc .id) (ownAnswer r d) (whole-put (r .window) (place (r .sc) slot) _ h) (fit-facts r (f .fits) .numbers .window);
-      promised = λ e n x o k. other-enters r b _ _ x (λ z. omega arith) o k;
+      promised = λ e n x o k. other-sent _ x (λ z. omega arith) o k;
       acked = other-entry PrepareBal AcceptData refl;
       commits = other-entry PrepareBal AcceptData refl;
       answered = other-entry PrepareBal AcceptData refl;
@@ -144,7 +145,7 @@ pub own-enters-with : (r : Replica) (room slot size : ℕ) → Whole (r .window)
 unfolding of
 own-enters-with r room slot size h =
     logged-way (enters r (ownAnswer r (record { entry = PrepareBal; slot = slot; size = size }) .ballot)) r (record { entry = PrepareBal; slot = slot; size = size }) room
-    (λ a l u. silent-enters r (ownAnswer r (record { entry = PrepareBal; slot = slot; size = size }) .ballot) (r .window))
+    (λ a l u x o k. none-sent x o k)
     (λ f. own-enters r slot size h f)
 
 -- ── the whole sentence ──

@@ -1,5 +1,5 @@
 -- While self leads at one ballot, what a slot holds changes only by replies that arrive for it: one call of each kind.
-use mathlib.Core.Path.{_≡_, refl, sym, ap, subst, _∙_}
+use mathlib.Core.Path.{_≡_, refl, sym, ap, _∙_}
 use mathlib.Core.Bool.{Bool, true, false, not, _&&_}
 use mathlib.Core.List.{List, [], _∷_}
 use mathlib.Core.Logic.{_⊎_, inl, inr}
@@ -8,16 +8,13 @@ use native.Mathlib.Omega.{arith}
 use lib.Dec.{ltb, eqb}
 use borrow.Author.Tests.{ltb-false, leb-true, eqb-true, eq-eqb, le-leb, le-ltb}
 use Rattle.base.specs.Pick.{pick, pick-cases, decide, same?, clash, and-both, and-make}
-use Rattle.members.specs.Ballots.{owns}
-use Rattle.members.specs.Laws.{owners-same}
-use Rattle.batch.specs.declared.Batch.{Batch}
 use Rattle.actions.specs.Actions.{Act}
 use Rattle.slots.specs.declared.Vote.{Vote}
 use Rattle.slots.specs.declared.Slot.{Slot}
 use Rattle.slots.specs.Slots.{preparedSlot, enteredSlot, markedSlot, passedSlot, loggedSlot, adoptedSlot}
 use Rattle.decide.specs.declared.Scalars.{Scalars}
 use Rattle.decide.specs.declared.Reply.{Reply}
-use Rattle.decide.specs.Scalars.{leads, following, followed}
+use Rattle.decide.specs.Scalars.{leads}
 use Rattle.decide.specs.Decide.{decideOffer, awaitsPrepare}
 use Rattle.window.specs.declared.Window.{Window}
 use Rattle.window.specs.Window.{slotAt, putSlot}
@@ -32,7 +29,7 @@ use Rattle.replica.specs.Durability.{entryNumber, passStop, loggedOn}
 use Rattle.replica.specs.Added.{movedExec}
 use Rattle.replica.specs.Step.{Call, callPrepare, callPrepareReply, callAccept, callAcceptReply, callCommitNotice, callTimeout, callLogged, callOffer, callExecuted, callOpenRead, callReadReply, step}
 use Rattle.laws.specs.OfFit.{fit-facts}
-use Rattle.laws.specs.WaysMessages.{prepareWindow, prepareEnd, prepareStep-ways, Accepts, acceptStep-ways, acceptReplyStep-ways}
+use Rattle.laws.specs.WaysMessages.{prepareWindow, prepareEnd, prepareStep-ways, acceptStep-ways, acceptReplyStep-ways}
 use Rattle.laws.specs.WaysReply.{replyWindow, replySlot, heardSlot, heardWindow, countedWindow, Answers, Heard, Unheard, reply-place}
 use Rattle.laws.specs.WaysLeadership.{timeoutStep-ways, markWindow, markFrom, markEnd, commitNoticeStep-ways, leads-up}
 use Rattle.laws.specs.WaysDurability.{logged, loggedAt, OwnReply, passFrom, other-entry}
@@ -40,10 +37,10 @@ use Rattle.laws.specs.WaysAdded.{offerWindow, offerStep-ways, executedStep-ways
 use Rattle.laws.specs.Appended.{appended-long, appended-has, appended-most, appended-cases}
 use Rattle.voting.specs.Windows.{Whole, whole-put}
 use Rattle.voting.specs.Keeping.{entered-keeps, marked-keeps, passed-keeps, executed-keeps, logged-keeps}
-use Rattle.voting.specs.Claims.{core, Claim, of, open-read-way, read-reply-way}
+use Rattle.voting.specs.Claims.{Claim, of, open-read-way, read-reply-way}
 use Rattle.voting.specs.Replying.{ReplyWays, map-reply, prepare-reply-way}
 use Rattle.voting.specs.Logging.{ownAnswer, ownBook, LogWays, logged-way}
-use Rattle.voting.specs.Reached.{Good}
+use Rattle.voting.specs.Reached.{Good, follows-none}
 use Rattle.voting.specs.Heard.{heldBy, heldAt, best, arrives, brings, heard, noOffer}
 
 -- ── one reply ──
@@ -136,19 +133,6 @@ after-held r d i =
     put-keeps heldBy (r .window) (place (r .sc) (d .slot)) i (loggedSlot (r .sc .«wal_offset») (slotAt (r .window) (place (r .sc) (d .slot))))
     (logged-keeps heldBy (λ s n. refl) (r .sc .«wal_offset») (slotAt (r .window) (place (r .sc) (d .slot))))
 
--- who leads can't take an Accept and lead on: its ballot would be owned by two, or another would lead
-no-accept : (r : Replica) (peer slot ballot : ℕ) (b : Batch) → Good (r .sc) (r .window) → leads (r .sc) ≡ true → Accepts r peer slot ballot b
-    → leads (core (followed (r .sc) peer ballot)) ≡ true → ⊥
-no-accept r peer slot ballot b g l f =
-    pick-cases (λ (x : Scalars). leads (core x) ≡ true → ⊥) (ltb (r .sc .«bal_max_seen») ballot)
-    {a = following (r .sc) peer ballot}
-    {b = r .sc}
-    (λ t e. f .peer-is .other (eqb-true peer (r .sc .id) e))
-    (λ t e.
-    let own = g .leading l in
-    let same : ballot ≡ r .sc .«bal_prep_sent» = (let x = ltb-false (r .sc .«bal_max_seen») ballot t in let y = f .seen in let z = own .0 in omega arith) in
-    f .peer-is .other (owners-same ballot peer (r .sc .id) (f .owned) (subst (λ (x : ℕ). owns x (r .sc .id) ≡ true) (sym same) (own .1))))
-
 -- a completion of another entry
 log-holds : (r : Replica) (d : Done) (s : ℕ) → (d .entry ≡ PrepareBal → ⊥) → LogWays (holds r s) r d
 unfolding of
@@ -195,7 +179,7 @@ step-holds r room c s g l st = go c
         (λ f x y. sweep-keeps heldBy (λ i v. preparedSlot ballot (prepareBook (r .sc) (prepareWindow r trigger) (place (r .sc) trigger) peer) v) (λ k v. refl) (place (r .sc) trigger) (prepareEnd r trigger) (prepareWindow r trigger) (place (r .sc) s)
         ∙ ap heldBy (grown-at (r .window) (place (r .sc) trigger + 1) (place (r .sc) s) (omega (arith, f .low, f .high))))
     go (callAccept peer slot ballot b) h n =
-        acceptStep-ways (of (holds r s)) r room peer slot ballot b (λ a z x y. refl) (λ f x y. absurd (no-accept r peer slot ballot b g l f x))
+        acceptStep-ways (of (holds r s)) r room peer slot ballot b (λ a z x y. refl) (λ f x y. absurd (follows-none r peer ballot g (f .peer-is) (f .owned) (f .seen) x))
     go (callAcceptReply peer slot ballot) h n =
         acceptReplyStep-ways (of (holds r s)) r room peer slot ballot (λ a z x y. refl) (λ f q x y. put-keeps heldBy (r .window) (place (r .sc) slot) (place (r .sc) s) _ refl)
         (λ f q x y. put-keeps heldBy (r .window) (place (r .sc) slot) (place (r .sc) s) _ refl)

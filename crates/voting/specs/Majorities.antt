@@ -3,15 +3,13 @@
 -- leader's ballot, each member in it answered at this ballot.
 use mathlib.Core.Path.{_≡_, refl, sym, ap, subst, _∙_}
 use mathlib.Core.Bool.{true, false}
-use mathlib.Core.List.{List, [], _∷_, _++_, List·Memᴰ·not-nil, List·Memᴰ·eq-of-singleton}
-use mathlib.Core.Logic.{_⊎_, inl, inr}
+use mathlib.Core.List.{List, [], _∷_, _++_}
+use mathlib.Core.Logic.{inl, inr}
 use Prim.Native.Nat.{ℕ, _+_, _≤_, _<_}
 use native.Mathlib.Omega.{arith}
-use lib.Dec.{leb}
 use borrow.Author.Tests.{leb-true}
 use Rattle.base.specs.Among.{_∈_}
 use Rattle.base.specs.Pick.{clash}
-use Rattle.base.specs.Gather.{gather-in}
 use Rattle.members.specs.Sets.{has, insert, countIn, fitsGroup}
 use Rattle.members.specs.Groups.{quorumOf}
 use Rattle.members.specs.Laws.{within-insert}
@@ -21,31 +19,30 @@ use Rattle.decide.specs.declared.Scalars.{Scalars}
 use Rattle.decide.specs.declared.Reply.{Reply}
 use Rattle.decide.specs.Scalars.{leads}
 use Rattle.window.specs.declared.Window.{Window}
-use Rattle.window.specs.Window.{slotAt}
-use Rattle.window.specs.Acts.{promise}
 use Rattle.window.specs.ByPlace.{atPlace, at-here, put-at}
 use Rattle.replica.specs.declared.Replica.{Replica}
 use Rattle.replica.specs.declared.Done.{Done}
 use Rattle.replica.specs.declared.Entry.the-variants.{PrepareBal, AcceptData, CommitSlot as CommitEntry}
-use Rattle.replica.specs.Record.{place, number}
+use Rattle.replica.specs.Record.{place}
 use Rattle.replica.specs.Messages.{cleanReply}
 use Rattle.replica.specs.Durability.{loggedOn}
-use Rattle.replica.specs.Step.{Call, callPrepareReply, callLogged, step}
+use Rattle.replica.specs.Step.{callPrepareReply, callLogged, step}
 use Rattle.laws.specs.OfFit.{fit-facts}
 use Rattle.laws.specs.OfScalars.{fallen-fixed}
 use Rattle.laws.specs.Counts.{heard-long}
-use Rattle.laws.specs.WaysReply.{replyWindow, heardWindow, countedWindow, triggerSlot, tabledSc, isFull, Answers, reply-place}
+use Rattle.laws.specs.WaysReply.{heardWindow, tabledSc, isFull, Answers, reply-place}
 use Rattle.laws.specs.WaysDurability.{logged, Logs, other-entry}
 use Rattle.laws.specs.Appended.{appended-low, appended-most}
 use Rattle.voting.specs.Paper.{Majority, quorum-is-majority}
 use Rattle.voting.specs.Windows.{Whole, whole-put}
 use Rattle.voting.specs.History.{Lent, told, play, play-append}
 use Rattle.voting.specs.Claims.{core, Claim, of}
-use Rattle.voting.specs.Replying.{enteredWindow, replyActs, ReplyWays, prepare-reply-way}
+use Rattle.voting.specs.Replying.{enteredWindow, ReplyWays, prepare-reply-way}
 use Rattle.voting.specs.Logging.{ownAnswer, LogWays, logged-way}
 use Rattle.voting.specs.Promises.{play-grows}
 use Rattle.voting.specs.Reached.{Good, good-play}
 use Rattle.voting.specs.Quorums.{kindOf}
+use Rattle.voting.specs.Entering.{none-sent, other-sent, appends-none}
 use Rattle.voting.specs.Backing.{Standing, standing, stands, Stood, PrepareAck, Once, HeldOr, prepare-backed, trigger-same, entered-same, after-same}
 
 -- self leads at the ballot, and a majority is in prepare_acks of the slot at place j
@@ -58,22 +55,10 @@ pub record ByMajority (group j ballot : ℕ) (sc : Scalars) (w : Window) : Type 
 abbrev byMajority : ℕ → ℕ → ℕ → Claim
 byMajority group j ballot a sc w acts = (x : Act) → x ∈ acts → kindOf x ≡ 6 → ByMajority group j ballot sc w
 
-none-sent : {A : Type 0} (x : Act) → x ∈ [] → kindOf x ≡ 6 → A
-none-sent x o k = absurd (List·Memᴰ·not-nil o)
-
-other-sent : {A : Type 0} (y x : Act) → (kindOf y ≡ 6 → ⊥) → x ∈ (y ∷ []) → kindOf x ≡ 6 → A
-other-sent y x n o k = absurd (n (sym (ap kindOf (List·Memᴰ·eq-of-singleton o)) ∙ k))
-
 module _ (r : Replica) (peer : ℕ) (m : Reply) (h : Whole (r .window)) (n : r .window .len ≤ 64) (p : peer < r .sc .group)
     (fits : (j : ℕ) → j < r .window .len → fitsGroup (stands r j .prepare) (r .sc .group) ≡ true) where
   abbrev j : ℕ
   j = place (r .sc) (m .trigger)
-
-  appends-none : {A : Type 0} (x : Act) → x ∈ replyActs r m → kindOf x ≡ 6 → A
-  appends-none {A} x o k = go (gather-in (λ i. promise (number (r .sc) i) (r .sc .«bal_prep_sent») ∷ []) (r .window .len) (place (r .sc) (m .slot) + 1) o)
-    where
-      go : (i : ℕ) × (r .window .len ≤ i) × (i < place (r .sc) (m .slot) + 1) × (x ∈ (promise (number (r .sc) i) (r .sc .«bal_prep_sent») ∷ [])) → A
-      go (i, lo, hi, o) = other-sent _ x (λ z. omega arith) o k
 
   -- the trigger slot after the call: the sender is put into the set that it had
   counted-set : Answers r m → standing (atPlace (enteredWindow r peer m) j) .prepare ≡ insert (stands r j .prepare) peer
@@ -98,9 +83,9 @@ module _ (r : Replica) (peer : ℕ) (m : Reply) (h : Whole (r .window)) (n : r .
   reply-majority : ReplyWays (byMajority (r .sc .group) j (m .ballot)) r peer m
   reply-majority =
       record {
-        passed = λ f t x o k. appends-none x o k;
-        heard = λ f t x o k. appends-none x o k;
-        counted = λ f t x o k. appends-none x o k;
+        passed = λ f t x o k. appends-none r m x o k;
+        heard = λ f t x o k. appends-none r m x o k;
+        counted = λ f t x o k. appends-none r m x o k;
         entered = λ f t q x o k. record { leading = f .leading; sent = sym (f .sent); majority = full-majority f q };
       }
 

@@ -12,7 +12,7 @@ use Rattle.base.specs.Pick.{pick-both, pick-cases, and-both}
 use Rattle.base.specs.Find.{any-nowhere}
 use Rattle.members.specs.Groups.{groupSize}
 use Rattle.members.specs.Ballots.{owns}
-use Rattle.members.specs.Laws.{next-given, next-owned, group-bounds}
+use Rattle.members.specs.Laws.{next-given, next-owned, group-bounds, owners-same}
 use Rattle.batch.specs.declared.Batch.{Batch}
 use Rattle.batch.specs.Batches.{isBatch}
 use Rattle.batch.specs.Keys.{overfull}
@@ -86,6 +86,19 @@ follow sc w v peer ballot g p l h k =
       leading = λ e. absurd (p .other (eqb-true peer (sc .id) e));
     })
     (λ t. re sc w v g h (λ i. let u = ltb-false (sc .«bal_max_seen») ballot t in omega (arith, k i)))
+
+-- who follows a peer does not lead: its ballot would be owned by two, or another would lead
+pub follows-none : (r : Replica) (peer ballot : ℕ) → Good (r .sc) (r .window) → Peer (r .sc) peer → owns ballot peer ≡ true → r .sc .«bal_max_seen» ≤ ballot
+    → leads (followed (r .sc) peer ballot) ≡ true → ⊥
+follows-none r peer ballot g p o s =
+    pick-cases (λ (x : Scalars). leads x ≡ true → ⊥) (ltb (r .sc .«bal_max_seen») ballot)
+    {a = following (r .sc) peer ballot}
+    {b = r .sc}
+    (λ t e. p .other (eqb-true peer (r .sc .id) e))
+    (λ t e.
+    let own = g .leading e in
+    let same : ballot ≡ r .sc .«bal_prep_sent» = (let x = ltb-false (r .sc .«bal_max_seen») ballot t in let z = own .0 in omega arith) in
+    p .other (owners-same ballot peer (r .sc .id) o (subst (λ (x : ℕ). owns x (r .sc .id) ≡ true) (sym same) (own .1))))
 
 worked-most : (r : Replica) (slot : ℕ) → fit r ≡ true → slot < r .sc .start + 64 → worked r slot .len ≤ 64
 worked-most r slot f u = filled-most nullSlot (r .window) (place (r .sc) slot + 1) 64 (fit-facts r f .numbers .window) (omega arith)

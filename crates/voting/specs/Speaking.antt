@@ -1,11 +1,10 @@
 -- What a call says, and when: replies come from log completions alone; an accept entry is never below what was promised.
-use mathlib.Core.Path.{_≡_, refl, sym, ap, subst, _∙_}
-use mathlib.Core.Bool.{Bool, true, false, not, _||_, _&&_}
+use mathlib.Core.Path.{_≡_, ap}
+use mathlib.Core.Bool.{false, not, _||_, _&&_}
 use mathlib.Core.List.{List, [], _∷_, _++_}
-use Prim.Native.Nat.{ℕ, _+_, _≤_, _<_}
-use native.Mathlib.Nat.{le-refl}
+use Prim.Native.Nat.{ℕ, _+_, _≤_}
 use native.Mathlib.Omega.{arith}
-use lib.Dec.{ltb, leb, eqb}
+use lib.Dec.{leb, eqb}
 use borrow.Author.Tests.{eqb-true}
 use Rattle.base.specs.Pick.{pick, pick-both, and-both}
 use Rattle.base.specs.Among.{_∈_, All, all-in, all-append, all-map}
@@ -32,8 +31,8 @@ use Rattle.window.specs.ByPlace.{atPlace}
 use Rattle.replica.specs.declared.Replica.{Replica}
 use Rattle.replica.specs.declared.Done.{Done}
 use Rattle.replica.specs.declared.Entry.{Entry}
-use Rattle.replica.specs.declared.Entry.the-variants.{PrepareBal as PrepareEntry, AcceptData as AcceptEntry, CommitSlot as CommitEntry}
-use Rattle.replica.specs.Record.{Outcome, place, number, logEnd}
+use Rattle.replica.specs.declared.Entry.the-variants.{PrepareBal as PrepareEntry, AcceptData as AcceptEntry}
+use Rattle.replica.specs.Record.{place, number, logEnd}
 use Rattle.replica.specs.Messages.{clean, cleanReply, downActs}
 use Rattle.replica.specs.Durability.{noticeActs, passStop, loggedOn}
 use Rattle.replica.specs.Quorumread.{answerAct}
@@ -41,15 +40,15 @@ use Rattle.replica.specs.Added.{movedExec}
 use Rattle.replica.specs.Step.{Call, callPrepare, callPrepareReply, callAccept, callAcceptReply, callCommitNotice, callTimeout, callLogged, callOffer, callExecuted, callOpenRead, callReadReply, step}
 use Rattle.laws.specs.OfFit.{fit-facts}
 use Rattle.laws.specs.WaysMessages.{prepareEnd, prepareStep-ways, acceptStep-ways, acceptReplyStep-ways}
-use Rattle.laws.specs.WaysReply.{replyWindow, countedWindow, Answers}
+use Rattle.laws.specs.WaysReply.{countedWindow, Answers}
 use Rattle.laws.specs.WaysLeadership.{leadWindow, leadTrigger, leadFrom, timeoutStep-ways, markWindow, markFrom, markEnd, commitNoticeStep-ways}
-use Rattle.laws.specs.WaysDurability.{logged, loggedAt, Logs, passFrom, other-entry}
-use Rattle.laws.specs.WaysAdded.{Offers, offerStep-ways, executedStep-ways, openReadStep-ways, readReplyStep-ways, readPlace, readAt, mergedRead}
-use Rattle.voting.specs.History.{Lent, told, play}
+use Rattle.laws.specs.WaysDurability.{logged, Logs, passFrom}
+use Rattle.laws.specs.WaysAdded.{offerStep-ways, executedStep-ways, openReadStep-ways, readReplyStep-ways, readPlace, readAt, mergedRead}
+use Rattle.voting.specs.History.{Lent, told}
 use Rattle.voting.specs.Claims.{Claim, of}
 use Rattle.voting.specs.Replying.{entersActs, replyActs, ReplyWays, prepare-reply-way}
 use Rattle.voting.specs.Logging.{ownAnswer, LogWays, logged-way}
-use Rattle.voting.specs.Promises.{acceptSays, play-seen, step-core}
+use Rattle.voting.specs.Promises.{acceptSays, step-core}
 use Rattle.voting.specs.Reached.{Good, good-step}
 use Rattle.voting.specs.Votes.{taken, taken-above}
 use Rattle.voting.specs.Telling.{told-same}
