@@ -16,6 +16,7 @@ pub mod Entering
 pub mod Backing
 pub mod Quorums
 pub mod Majorities
+pub mod Reigning
 pub mod Telling
 pub mod Speaking
 pub mod Ballots

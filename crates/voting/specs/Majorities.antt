@@ -45,15 +45,16 @@ use Rattle.voting.specs.Quorums.{kindOf}
 use Rattle.voting.specs.Entering.{none-sent, other-sent, appends-none}
 use Rattle.voting.specs.Backing.{Standing, standing, stands, Stood, PrepareAck, Once, HeldOr, prepare-backed, trigger-same, entered-same, after-same}
 
--- self leads at the ballot, and a majority is in prepare_acks of the slot at place j
-pub record ByMajority (group j ballot : ℕ) (sc : Scalars) (w : Window) : Type 0 where
+-- self leads at the ballot, which is bal_prep_sent before and after, and a majority is in prepare_acks of the slot at place j
+pub record ByMajority (group sent j ballot : ℕ) (sc : Scalars) (w : Window) : Type 0 where
   pub leading : leads sc ≡ true
-  pub sent : sc .«bal_prep_sent» ≡ ballot
+  pub asked : ballot ≡ sent
+  pub same : sc .«bal_prep_sent» ≡ sent
   pub majority : Majority group (standing (atPlace w j) .prepare)
 
 -- wherever an action of kind 6 (Accept) is given
-abbrev byMajority : ℕ → ℕ → ℕ → Claim
-byMajority group j ballot a sc w acts = (x : Act) → x ∈ acts → kindOf x ≡ 6 → ByMajority group j ballot sc w
+abbrev byMajority : ℕ → ℕ → ℕ → ℕ → Claim
+byMajority group sent j ballot a sc w acts = (x : Act) → x ∈ acts → kindOf x ≡ 6 → ByMajority group sent j ballot sc w
 
 module _ (r : Replica) (peer : ℕ) (m : Reply) (h : Whole (r .window)) (n : r .window .len ≤ 64) (p : peer < r .sc .group)
     (fits : (j : ℕ) → j < r .window .len → fitsGroup (stands r j .prepare) (r .sc .group) ≡ true) where
@@ -80,22 +81,22 @@ module _ (r : Replica) (peer : ℕ) (m : Reply) (h : Whole (r .window)) (n : r .
       subst (Majority (r .sc .group)) (sym (counted-set f))
       (quorum-is-majority (r .sc .group) (insert (stands r j .prepare) peer) (within-insert (stands r j .prepare) (r .sc .group) peer (fits j low) p) .1 some)
 
-  reply-majority : ReplyWays (byMajority (r .sc .group) j (m .ballot)) r peer m
+  reply-majority : ReplyWays (byMajority (r .sc .group) (r .sc .«bal_prep_sent») j (m .ballot)) r peer m
   reply-majority =
       record {
         passed = λ f t x o k. appends-none r m x o k;
         heard = λ f t x o k. appends-none r m x o k;
         counted = λ f t x o k. appends-none r m x o k;
-        entered = λ f t q x o k. record { leading = f .leading; sent = sym (f .sent); majority = full-majority f q };
+        entered = λ f t q x o k. record { leading = f .leading; asked = f .sent; same = refl; majority = full-majority f q };
       }
 
 -- ── one call, on any record with a window of 64 slots ──
 -- an Accept that an arriving PrepareReply makes self send
 pub enter-by-majority : (r : Replica) (room peer : ℕ) (m : Reply) → Whole (r .window) → (x : Act) → x ∈ step r room (callPrepareReply peer m) .actions → kindOf x ≡ 6
-    → ByMajority (r .sc .group) (place (r .sc) (m .trigger)) (m .ballot) (core (step r room (callPrepareReply peer m) .replica .sc)) (step r room (callPrepareReply peer m) .replica .window)
+    → ByMajority (r .sc .group) (r .sc .«bal_prep_sent») (place (r .sc) (m .trigger)) (m .ballot) (core (step r room (callPrepareReply peer m) .replica .sc)) (step r room (callPrepareReply peer m) .replica .window)
 unfolding of
 enter-by-majority r room peer m h =
-    prepare-reply-way (byMajority (r .sc .group) (place (r .sc) (m .trigger)) (m .ballot)) r room peer m (λ a l u. none-sent)
+    prepare-reply-way (byMajority (r .sc .group) (r .sc .«bal_prep_sent») (place (r .sc) (m .trigger)) (m .ballot)) r room peer m (λ a l u. none-sent)
     (λ f.
     let g = fit-facts r (f .fits) in
     reply-majority r peer (cleanReply m) h (g .numbers .window) (f .peer-is .member)
@@ -109,7 +110,7 @@ module _ (r : Replica) (room slot offset : ℕ) (h : Whole (r .window)) where
   abbrev ownPlace : ℕ
   ownPlace = place (r .sc) (ownAnswer r mine .trigger)
 
-  own-majority : Logs r mine → LogWays (byMajority (r .sc .group) ownPlace (ownAnswer r mine .ballot)) r mine
+  own-majority : Logs r mine → LogWays (byMajority (r .sc .group) (r .sc .«bal_prep_sent») ownPlace (ownAnswer r mine .ballot)) r mine
   unfolding of loggedOn
   own-majority f =
       let g = fit-facts r (f .fits) in
@@ -128,41 +129,42 @@ module _ (r : Replica) (room slot offset : ℕ) (h : Whole (r .window)) where
       }
 
   pub own-enter-by-majority : (x : Act) → x ∈ step r room (callLogged mine) .actions → kindOf x ≡ 6
-      → ByMajority (r .sc .group) ownPlace (ownAnswer r mine .ballot) (core (step r room (callLogged mine) .replica .sc)) (step r room (callLogged mine) .replica .window)
+      → ByMajority (r .sc .group) (r .sc .«bal_prep_sent») ownPlace (ownAnswer r mine .ballot) (core (step r room (callLogged mine) .replica .sc)) (step r room (callLogged mine) .replica .window)
   unfolding of
-  own-enter-by-majority = logged-way (byMajority (r .sc .group) ownPlace (ownAnswer r mine .ballot)) r mine room (λ a l u. none-sent) own-majority
+  own-enter-by-majority = logged-way (byMajority (r .sc .group) (r .sc .«bal_prep_sent») ownPlace (ownAnswer r mine .ballot)) r mine room (λ a l u. none-sent) own-majority
 
 -- ── the whole sentence ──
--- over a history from a replica that does not lead: the majority of the trigger slot, at place j after the last call c; and where that slot is at
--- this ballot, each member of the majority has answered at it (Differences has a run in which the reply names a slot of an older ballot)
+-- over a history from a replica that does not lead at this ballot yet: the majority of the trigger slot, at place j after the last call c; and where that slot is at
+-- this ballot, each member of the majority has answered at it (Differences has a run in which the reply names a slot of an older ballot; Reigning says
+-- that the slot which the step-up named is at it)
 pub record MajorityAnswered (r : Replica) (h : List Lent) (c : Lent) (j ballot : ℕ) : Type 0 where
   pub majority : Majority (r .sc .group) (stands (told (play r h) c .replica) j .prepare)
   pub each : stands (told (play r h) c .replica) j .ballot ≡ ballot → (p : ℕ) → has (stands (told (play r h) c .replica) j .prepare) p ≡ true
       → Once (λ q k. PrepareAck q j p k) ballot r (h ++ (c ∷ []))
 
-answered-over : (r : Replica) (h : List Lent) (c : Lent) (j ballot : ℕ) → Good (r .sc) (r .window) → leads (r .sc) ≡ false
-    → ByMajority (play r h .sc .group) j ballot (core (told (play r h) c .replica .sc)) (told (play r h) c .replica .window) → MajorityAnswered r h c j ballot
+pub answered-over : (r : Replica) (h : List Lent) (c : Lent) (j ballot : ℕ) → Good (r .sc) (r .window) → (Stood r j ballot → ⊥)
+    → ByMajority (play r h .sc .group) (play r h .sc .«bal_prep_sent») j ballot (core (told (play r h) c .replica .sc)) (told (play r h) c .replica .window) → MajorityAnswered r h c j ballot
 answered-over r h c j ballot g n m =
     record {
       majority = subst (λ (x : ℕ). Majority x (stands (told (play r h) c .replica) j .prepare)) (play-grows r h .group) (m .majority);
       each = λ e p k.
-          let s : Stood (told (play r h) c .replica) j ballot = record { leading = m .leading; same = m .sent; at = e } in
+          let s : Stood (told (play r h) c .replica) j ballot = record { leading = m .leading; same = m .same ∙ sym (m .asked); at = e } in
           since p (prepare-backed r (h ++ (c ∷ [])) j p ballot g (subst (λ (q : Replica). Stood q j ballot) (sym (play-append r h c)) s)
           (subst (λ (q : Replica). has (stands q j .prepare) p ≡ true) (sym (play-append r h c)) k));
     }
   where
     since : (p : ℕ) → HeldOr (λ x. x .prepare) (λ q k. PrepareAck q j p k) j p r (h ++ (c ∷ [])) ballot → Once (λ q k. PrepareAck q j p k) ballot r (h ++ (c ∷ []))
-    since p (inl (s, k)) = absurd (clash (s .leading) n)
+    since p (inl (s, k)) = absurd (n s)
     since p (inr x) = x
 
 pub enters-answered : (r : Replica) (h : List Lent) (room peer : ℕ) (m : Reply) → Good (r .sc) (r .window) → leads (r .sc) ≡ false → (x : Act)
     → x ∈ step (play r h) room (callPrepareReply peer m) .actions → kindOf x ≡ 6
     → MajorityAnswered r h (record { room = room; call = callPrepareReply peer m }) (place (play r h .sc) (m .trigger)) (m .ballot)
-enters-answered r h room peer m g n x o k = answered-over r h _ _ _ g n (enter-by-majority (play r h) room peer m (good-play r h g .whole) x o k)
+enters-answered r h room peer m g n x o k = answered-over r h _ _ _ g (λ s. clash (s .leading) n) (enter-by-majority (play r h) room peer m (good-play r h g .whole) x o k)
 
 pub own-enters-answered : (r : Replica) (h : List Lent) (room slot offset : ℕ) → Good (r .sc) (r .window) → leads (r .sc) ≡ false → (x : Act)
     → x ∈ step (play r h) room (callLogged (record { entry = PrepareBal; slot = slot; size = offset })) .actions → kindOf x ≡ 6
     → MajorityAnswered r h (record { room = room; call = callLogged (record { entry = PrepareBal; slot = slot; size = offset }) })
     (place (play r h .sc) (ownAnswer (play r h) (record { entry = PrepareBal; slot = slot; size = offset }) .trigger))
     (ownAnswer (play r h) (record { entry = PrepareBal; slot = slot; size = offset }) .ballot)
-own-enters-answered r h room slot offset g n x o k = answered-over r h _ _ _ g n (own-enter-by-majority (play r h) room slot offset (good-play r h g .whole) x o k)
+own-enters-answered r h room slot offset g n x o k = answered-over r h _ _ _ g (λ s. clash (s .leading) n) (own-enter-by-majority (play r h) room slot offset (good-play r h g .whole) x o k)

@@ -1,19 +1,21 @@
 -- The theorems' hypotheses are met: runs from a new replica, computed.
 use mathlib.Core.Path.{_≡_, refl, sym, subst, _∙_}
-use mathlib.Core.List.{List, [], _∷_, _++_, map, List·Memᴰ·head}
+use mathlib.Core.List.{List, [], _∷_, _++_, map, List·Memᴰ·head, List·Memᴰ·tail}
 use mathlib.Core.Logic.{inr}
 use Prim.Native.Nat.{ℕ, _<_}
 use native.Mathlib.Omega.{arith}
 use Rattle.base.specs.Among.{_∈_}
 use Rattle.base.specs.Scan.{scan}
 use Rattle.members.specs.Sets.{has, insert, count, countIn}
-use Rattle.batch.specs.Batches.{makeBatch}
+use Rattle.batch.specs.Batches.{emptyBatch, makeBatch}
+use Rattle.actions.specs.declared.Action.the-variants.{Accept}
+use Rattle.actions.specs.Actions.{act}
 use Rattle.batch.specs.Keys.{placeIn, noteKey, noteKeys, newKeys, overfullIn}
 use Rattle.tally.specs.Open.{fitReads}
 use Rattle.slots.specs.declared.Vote.{Vote}
 use Rattle.slots.specs.Slots.{fitSlot}
 use Rattle.decide.specs.Bars.{notAbove, leastMajority, withBar, withFallen}
-use Rattle.decide.specs.Decide.{decideAccept, decideAcceptReply, decideVote, decideCount, decidePromised, decideAccepted}
+use Rattle.decide.specs.Decide.{decideAccept, decideAcceptReply, decideVote, decideCount, decidePromised, decideAccepted, proposal}
 use Rattle.decide.specs.Scalars.{fitScalars}
 use Rattle.window.specs.Window.{fitSlots, lastUsed, firstOpen, lastOpen, filled}
 use Rattle.window.specs.ByPlace.{atPlace}
@@ -25,12 +27,14 @@ use Rattle.replica.specs.Messages.{prepareOn, prepareStep, countedOn, votedOn, 
 use Rattle.replica.specs.Leadership.{leadOn, stepUp, timeoutStep}
 use Rattle.replica.specs.Durability.{preparedDone, movedAccept, acceptedDone, loggedOn, loggedStep}
 use Rattle.replica.specs.Step.{Call, callPrepare, callPrepareReply, callAccept, callAcceptReply, callTimeout, callLogged, step}
+use Rattle.laws.specs.WaysLeadership.{leadTrigger}
 use Rattle.voting.specs.History.{Lent, told, play}
 use Rattle.voting.specs.Promises.{play-grows}
 use Rattle.voting.specs.Reached.{Good, good-new, good-play}
 use Rattle.voting.specs.Votes.{voteOf, taken}
 use Rattle.voting.specs.Quorums.{kindOf, commitOf, acksOf, commit-by-own, commit-by-reply, commits-meet}
 use Rattle.voting.specs.Backing.{stands}
+use Rattle.voting.specs.Reigning.{Reigns, EachAnswered, reign-answered}
 use Rattle.voting.specs.Heard.{Reign, heardIn, heldAt, best}
 use Rattle.voting.specs.Differences.{reply, voting, batchOf}
 use mathlib.Core.Bool.{true, false}
@@ -135,6 +139,35 @@ asked-sends = refl
 pub asked-stands : (stands (told (play first asked) third .replica) 0 .ballot ≡ 257) × (stands (told (play first asked) third .replica) 0 .prepare ≡ 11)
 unfolding atPlace asked newReplica fit fitScalars fitSlots fitReads fitSlot filled noting settled countedOn votedOn repliedOn replyOn prepareReplyStep prepareOn prepareStep lastUsed acceptReplyStep firstOpen lastOpen leadOn stepUp timeoutStep preparedDone movedAccept acceptedDone loggedOn loggedStep decideVote decideCount decidePromised decideAccepted decideAcceptReply notAbove leastMajority withBar withFallen has insert count countIn makeBatch noteKey noteKeys newKeys placeIn overfullIn scan
 asked-stands = (refl, refl)
+
+-- a reign: the step-up, and what follows it up to that reply; so each of the three has answered at 257
+abbrev pub stepUp0 : Lent
+stepUp0 = lend (callTimeout 0)
+
+unfoldable pub since : List Lent
+since = lend (callPrepareReply 1 (reply 0 0 257)) ∷ lend (callLogged (record { entry = PrepareBal; slot = 0; size = 40 })) ∷ []
+
+pub reigns-met : Reigns first stepUp0 since
+unfolding since newReplica fit fitScalars fitSlots fitReads fitSlot filled noting settled countedOn votedOn repliedOn replyOn prepareReplyStep prepareOn prepareStep lastUsed acceptReplyStep firstOpen lastOpen leadOn stepUp timeoutStep preparedDone movedAccept acceptedDone loggedOn loggedStep decideVote decideCount decidePromised decideAccepted decideAcceptReply notAbove leastMajority withBar withFallen has insert count countIn makeBatch noteKey noteKeys newKeys placeIn overfullIn scan
+reigns-met =
+    record {
+      good = good-new 0 5 0 0 refl;
+      source = 0;
+      timer = refl;
+      new = λ e. absurd (omega (arith, e));
+      on = (refl, refl, (refl, refl, tt));
+    }
+
+pub accept-sent-met : act (Accept (proposal 0 257 emptyBatch)) (emptyBatch .keys) ∈ told (play first (stepUp0 ∷ since)) third .actions
+unfolding since newReplica fit fitScalars fitSlots fitReads fitSlot filled noting settled countedOn votedOn repliedOn replyOn prepareReplyStep prepareOn prepareStep lastUsed acceptReplyStep firstOpen lastOpen leadOn stepUp timeoutStep preparedDone movedAccept acceptedDone loggedOn loggedStep decideVote decideCount decidePromised decideAccepted decideAcceptReply notAbove leastMajority withBar withFallen has insert count countIn makeBatch noteKey noteKeys newKeys placeIn overfullIn scan
+accept-sent-met = List·Memᴰ·tail (List·Memᴰ·head refl)
+
+first-trigger : leadTrigger first ≡ 0
+unfolding newReplica firstOpen scan
+first-trigger = refl
+
+pub reign-answered-met : EachAnswered first stepUp0 since third 257
+reign-answered-met = reign-answered first stepUp0 since reigns-met 3456 3 (reply 0 0 257) (sym first-trigger) _ accept-sent-met refl
 
 -- ── a promise: member 2 answers 0's Prepare at 257 once its entry is durable ──
 unfoldable pub promised : List Lent
