@@ -31,8 +31,8 @@ use Rattle.agreement.specs.Group.{each, old, inv}
 
 -- ── what is said ──
 -- member p has sent an AcceptReply for slot s at this ballot
-abbrev pub Replied : World → ℕ → ℕ → ℕ → Type 0
-Replied w p s ballot = (a : Act) × (a ∈ w .did p) × ((x : Accepted) × (a .what ≡ AcceptReply x) × (x .slot ≡ s) × (x .ballot ≡ ballot))
+abbrev pub HasReplied : World → ℕ → ℕ → ℕ → Type 0
+HasReplied w p s ballot = (a : Act) × (a ∈ w .did p) × ((x : Accepted) × (a .what ≡ AcceptReply x) × (x .slot ≡ s) × (x .ballot ≡ ballot))
 
 -- every AcceptReply of a run came from a slot that was Accepting when it was sent (its ballot is the slot's: replies-on-completion)
 abbrev pub Truthful : {g : Group} {w : World} → Reach g w → Type 0
@@ -80,7 +80,7 @@ reply-kind from (ReadAnswer q) keys c p s b i e = absurd (List·Memᴰ·not-nil 
 
 -- or the call is refused, and changes nothing
 pub reply-sent : (w : World) (m room : ℕ) (c : Call) → May w m room c → (p s b : ℕ) → c ≡ callAcceptReply p s b
-    → Replied w p s b ⊎ ((step (w .replica m) room c .answer ≡ 0 → ⊥) × (step (w .replica m) room c .replica ≡ w .replica m))
+    → HasReplied w p s b ⊎ ((step (w .replica m) room c .answer ≡ 0 → ⊥) × (step (w .replica m) room c .replica ≡ w .replica m))
 reply-sent w m room _ (message from a c h i) p s b q =
     let (z, y) = reply-kind from (a .what) (a .keys) c p s b i q in
     inl (a, subst (λ (n : ℕ). a ∈ w .did n) z h, y)
@@ -124,7 +124,7 @@ sentOf r = r .sc .«bal_prep_sent»
 
 -- at whoever leads, of each slot at its ballot
 abbrev Behind : World → ℕ → Replica → Type 0
-Behind w l r = (i p : ℕ) → Stood r i (sentOf r) → has (stands r i .accept) p ≡ true → (p ≡ l) ⊎ Replied w p (number (r .sc) i) (sentOf r)
+Behind w l r = (i p : ℕ) → Stood r i (sentOf r) → has (stands r i .accept) p ≡ true → (p ≡ l) ⊎ HasReplied w p (number (r .sc) i) (sentOf r)
 
 abbrev AcksSent : Group → World → Type 0
 AcksSent g w = (l : ℕ) → g .present l ≡ true → Behind w l (w .replica l)
@@ -139,25 +139,25 @@ module _ (g : Group) (w : World) (reach : Reach g w) (ih : AcksSent g w) (m : �
   abbrev o : Outcome
   o = step (w .replica m) room c
 
-  later : (p s ballot : ℕ) → Replied w p s ballot → Replied (put w m o) p s ballot
+  later : (p s ballot : ℕ) → HasReplied w p s ballot → HasReplied (put w m o) p s ballot
   later p s ballot (y, h, x) = (y, old w m o p h, x)
 
   -- as before the call, by the ballot and the start that stay
   before : (i p sent : ℕ) → Stood (w .replica m) i sent → has (stands (w .replica m) i .accept) p ≡ true
-      → (p ≡ m) ⊎ Replied (put w m o) p (number (o .replica .sc) i) sent
+      → (p ≡ m) ⊎ HasReplied (put w m o) p (number (o .replica .sc) i) sent
   before i p sent s h = go (ih m l i p (record { leading = s .leading; same = refl; at = s .at ∙ sym (s .same) }) h)
     where
-      go : (p ≡ m) ⊎ Replied w p (number (w .replica m .sc) i) (sentOf (w .replica m)) → (p ≡ m) ⊎ Replied (put w m o) p (number (o .replica .sc) i) sent
+      go : (p ≡ m) ⊎ HasReplied w p (number (w .replica m .sc) i) (sentOf (w .replica m)) → (p ≡ m) ⊎ HasReplied (put w m o) p (number (o .replica .sc) i) sent
       go (inl e) = inl e
       go (inr x) =
-          inr (subst (λ (n : ℕ). Replied (put w m o) p (n + i) sent) (sym (start-stays (w .replica m) room c))
-          (subst (λ (b : ℕ). Replied (put w m o) p (number (w .replica m .sc) i) b) (s .same) (later p _ _ x)))
+          inr (subst (λ (n : ℕ). HasReplied (put w m o) p (n + i) sent) (sym (start-stays (w .replica m) room c))
+          (subst (λ (b : ℕ). HasReplied (put w m o) p (number (w .replica m .sc) i) b) (s .same) (later p _ _ x)))
 
   now : Behind (put w m o) m (o .replica)
   now i p s h = go (acks-step (w .replica m) room c i (fine-in g w reach m l) (s .leading) (s .at) .accept p h)
     where
       came : (slot ballot : ℕ) → sentOf (w .replica m) ≡ sentOf (o .replica) → ballot ≡ sentOf (w .replica m) → slot ≡ number (w .replica m .sc) i
-          → Replied w p slot ballot ⊎ ((o .answer ≡ 0 → ⊥) × (o .replica ≡ w .replica m)) → (p ≡ m) ⊎ Replied (put w m o) p (number (o .replica .sc) i) (sentOf (o .replica))
+          → HasReplied w p slot ballot ⊎ ((o .answer ≡ 0 → ⊥) × (o .replica ≡ w .replica m)) → (p ≡ m) ⊎ HasReplied (put w m o) p (number (o .replica .sc) i) (sentOf (o .replica))
       came slot ballot q e f (inr (_, same)) =
           before i p (sentOf (o .replica)) (record {
             leading = subst (λ (x : Replica). leads (x .sc) ≡ true) same (s .leading);
@@ -170,12 +170,12 @@ module _ (g : Group) (w : World) (reach : Reach g w) (ih : AcksSent g w) (m : �
 
       byAck : sentOf (w .replica m) ≡ sentOf (o .replica)
           → ((slot : ℕ) × (ballot : ℕ) × (c ≡ callAcceptReply p slot ballot) × (ballot ≡ sentOf (w .replica m)) × (slot ≡ number (w .replica m .sc) i)) ⊎ (p ≡ w .replica m .sc .id)
-          → (p ≡ m) ⊎ Replied (put w m o) p (number (o .replica .sc) i) (sentOf (o .replica))
+          → (p ≡ m) ⊎ HasReplied (put w m o) p (number (o .replica .sc) i) (sentOf (o .replica))
       byAck q (inr e) = inl (e ∙ inv g w reach .local m l .id)
       byAck q (inl (slot, ballot, k, e, f)) = came slot ballot q e f (reply-sent w m room c a p slot ballot k)
 
       go : (Stood (w .replica m) i (sentOf (o .replica)) × (has (stands (w .replica m) i .accept) p ≡ true)) ⊎ ((sentOf (w .replica m) ≡ sentOf (o .replica)) × AcceptAck (w .replica m) i p c)
-          → (p ≡ m) ⊎ Replied (put w m o) p (number (o .replica .sc) i) (sentOf (o .replica))
+          → (p ≡ m) ⊎ HasReplied (put w m o) p (number (o .replica .sc) i) (sentOf (o .replica))
       go (inl (q, k)) = before i p (sentOf (o .replica)) q k
       go (inr (q, k)) = byAck q (ack-cases k)
 
@@ -183,7 +183,7 @@ module _ (g : Group) (w : World) (reach : Reach g w) (ih : AcksSent g w) (m : �
   acks-turn j =
       each w m o (λ j r h. g .present j ≡ true → Behind (put w m o) j r) j (λ d p i q s h. lift (ih j p i q s h)) (λ _. now)
     where
-      lift : {p q s b : ℕ} → (p ≡ q) ⊎ Replied w p s b → (p ≡ q) ⊎ Replied (put w m o) p s b
+      lift : {p q s b : ℕ} → (p ≡ q) ⊎ HasReplied w p s b → (p ≡ q) ⊎ HasReplied (put w m o) p s b
       lift (inl e) = inl e
       lift {p} {q} {s} {b} (inr x) = inr (later p s b x)
 

@@ -33,16 +33,16 @@ use Rattle.agreement.specs.Frame.{Marked, ActOk}
 use Rattle.agreement.specs.Group.{viewOf, each, old, cases, inv, good-in, framed, agreement-of}
 use Rattle.agreement.specs.Commits.{numbered-here}
 use Rattle.agreement.specs.Worlds.{accepted}
-use Rattle.agreement.specs.Acks.{Replied, Truthful, reply-sent, fine-in, acks-sent}
+use Rattle.agreement.specs.Acks.{HasReplied, Truthful, reply-sent, fine-in, acks-sent}
 
 -- ── what is said ──
--- the proposal that slot s of member l holds
-abbrev pub heldBy : World → ℕ → ℕ → Vote
-heldBy w l s = record { ballot = slotOf (w .replica l) s .ballot; batch = slotOf (w .replica l) s .batch }
+-- the proposal that slot s of member l holds: its ballot and batch
+abbrev pub proposalAt : World → ℕ → ℕ → Vote
+proposalAt w l s = record { ballot = slotOf (w .replica l) s .ballot; batch = slotOf (w .replica l) s .batch }
 
 -- each member of a set is l itself, or has sent an AcceptReply for slot s at the ballot that l holds it at
 abbrev pub AllReplied : World → ℕ → ℕ → ℕ → Type 0
-AllReplied w l s set = (m : ℕ) → has set m ≡ true → (m ≡ l) ⊎ Replied w m s (heldBy w l s .ballot)
+AllReplied w l s set = (m : ℕ) → has set m ≡ true → (m ≡ l) ⊎ HasReplied w m s (proposalAt w l s .ballot)
 
 -- ── every member's group is the group ──
 made-sized : (g : Group) (m : ℕ) → g .present m ≡ true → begin g .replica m .sc .group ≡ g .size
@@ -66,7 +66,7 @@ numbered-place from w s l = let e : from + (s - from) ≡ s = omega arith in sub
 abbrev HasEntry : World → ℕ → ℕ → ℕ → Type 0
 HasEntry w m s ballot = (e : Batch) × (acceptEntry s ballot e ∈ w .did m)
 
-truthful-entry : (g : Group) (w : World) (r : Reach g w) → Truthful r → (m s ballot : ℕ) → Replied w m s ballot → HasEntry w m s ballot
+truthful-entry : (g : Group) (w : World) (r : Reach g w) → Truthful r → (m s ballot : ℕ) → HasReplied w m s ballot → HasEntry w m s ballot
 unfolding begin
 truthful-entry g w begins t m s ballot (y, h, x) = absurd (List·Memᴰ·not-nil h)
 truthful-entry g w (turn {w = u} r j p room c a) t m s ballot (y, h, (x, e, f, k)) = go (λ q. truthful-entry g u r (t .0) m s ballot (y, q, (x, e, f, k))) (cases u j (step (u .replica j) room c) m h)
@@ -102,7 +102,7 @@ module _ (g : Group) (w : World) (reach : Reach g w) (l : ℕ) (pres : g .presen
   r = w .replica l
 
   -- from the slot that is Accepting at a leader, and its acknowledgements before the last one
-  module _ (peer : ℕ) (w′ : Window) (low : r .sc .start ≤ s) (c : Committed r w′ (place (r .sc) s) peer) (last : (peer ≡ l) ⊎ Replied w peer s (heldBy w l s .ballot)) where
+  module _ (peer : ℕ) (w′ : Window) (low : r .sc .start ≤ s) (c : Committed r w′ (place (r .sc) s) peer) (last : (peer ≡ l) ⊎ HasReplied w peer s (proposalAt w l s .ballot)) where
     here : slotOf r s ≡ atPlace (r .window) (place (r .sc) s)
     here = numbered-place (r .sc .start) (r .window) s low
 
@@ -114,32 +114,32 @@ module _ (g : Group) (w : World) (reach : Reach g w) (l : ℕ) (pres : g .presen
     all-replied : AllReplied w l s (acksOf w′ (place (r .sc) s))
     all-replied m h = go (insert-or (acksOf (r .window) (place (r .sc) s)) peer m (subst (λ (x : ℕ). has x m ≡ true) (c .last) h))
       where
-        before : (m ≡ l) ⊎ Replied w m (number (r .sc) (place (r .sc) s)) (r .sc .«bal_prep_sent») → (m ≡ l) ⊎ Replied w m s (heldBy w l s .ballot)
+        before : (m ≡ l) ⊎ HasReplied w m (number (r .sc) (place (r .sc) s)) (r .sc .«bal_prep_sent») → (m ≡ l) ⊎ HasReplied w m s (proposalAt w l s .ballot)
         before (inl e) = inl e
         before (inr (y, k, (x, e, f, b))) = inr (y, k, (x, e, (omega (arith, f)), b ∙ sym (ap (λ (v : Slot). v .ballot) here ∙ at-sent)))
 
-        go : (m ≡ peer) ⊎ (has (acksOf (r .window) (place (r .sc) s)) m ≡ true) → (m ≡ l) ⊎ Replied w m s (heldBy w l s .ballot)
-        go (inl e) = subst (λ (n : ℕ). (n ≡ l) ⊎ Replied w n s (heldBy w l s .ballot)) (sym e) last
+        go : (m ≡ peer) ⊎ (has (acksOf (r .window) (place (r .sc) s)) m ≡ true) → (m ≡ l) ⊎ HasReplied w m s (proposalAt w l s .ballot)
+        go (inl e) = subst (λ (n : ℕ). (n ≡ l) ⊎ HasReplied w n s (proposalAt w l s .ballot)) (sym e) last
         go (inr k) = before (acks-sent g w reach l pres (place (r .sc) s) m (record { leading = c .leading; same = refl; at = at-sent }) k)
 
-    is-chosen : Truthful reach → Chosen (g .size) (accepted w s) (heldBy w l s)
+    is-chosen : Truthful reach → Chosen (g .size) (accepted w s) (proposalAt w l s)
     is-chosen t = (
       acksOf w′ (place (r .sc) s),
       subst (λ (n : ℕ). Majority n (acksOf w′ (place (r .sc) s))) (sized-in g w reach l pres) (c .majority),
       λ m h. go m (all-replied m h),
     )
       where
-        own : acceptEntry s (heldBy w l s .ballot) (heldBy w l s .batch) ∈ w .did l
+        own : acceptEntry s (proposalAt w l s .ballot) (proposalAt w l s .batch) ∈ w .did l
         own = inv g w reach .local l pres .voted s (ap (λ (v : Slot). v .status) here ∙ c .accepts)
 
-        same : (m : ℕ) → HasEntry w m s (heldBy w l s .ballot) → accepted w s m (heldBy w l s)
+        same : (m : ℕ) → HasEntry w m s (proposalAt w l s .ballot) → accepted w s m (proposalAt w l s)
         same m (e, h) =
-            subst (λ (b : Batch). acceptEntry s (heldBy w l s .ballot) b ∈ w .did m)
-            (agreement-of (inv g w reach) .one-batch m l s s (heldBy w l s .ballot) (heldBy w l s .ballot) e (heldBy w l s .batch) h own refl refl) h
+            subst (λ (b : Batch). acceptEntry s (proposalAt w l s .ballot) b ∈ w .did m)
+            (agreement-of (inv g w reach) .one-batch m l s s (proposalAt w l s .ballot) (proposalAt w l s .ballot) e (proposalAt w l s .batch) h own refl refl) h
 
-        go : (m : ℕ) → (m ≡ l) ⊎ Replied w m s (heldBy w l s .ballot) → accepted w s m (heldBy w l s)
-        go m (inl e) = subst (λ (n : ℕ). accepted w s n (heldBy w l s)) (sym e) own
-        go m (inr x) = same m (truthful-entry g w reach t m s (heldBy w l s .ballot) x)
+        go : (m : ℕ) → (m ≡ l) ⊎ HasReplied w m s (proposalAt w l s .ballot) → accepted w s m (proposalAt w l s)
+        go m (inl e) = subst (λ (n : ℕ). accepted w s n (proposalAt w l s)) (sym e) own
+        go m (inr x) = same m (truthful-entry g w reach t m s (proposalAt w l s .ballot) x)
 
   low-of : (room : ℕ) (c : Call) → commitOf s ∈ step r room c .actions → r .sc .start ≤ s
   low-of room c h =
@@ -153,12 +153,12 @@ module _ (g : Group) (w : World) (reach : Reach g w) (l : ℕ) (pres : g .presen
     abbrev o : Outcome
     o = step r room (callAcceptReply p s ballot)
 
-    last-replied : (p ≡ l) ⊎ Replied w p s (heldBy w l s .ballot)
+    last-replied : (p ≡ l) ⊎ HasReplied w p s (proposalAt w l s .ballot)
     last-replied = go (reply-sent w l room _ a p s ballot refl)
       where
-        go : Replied w p s ballot ⊎ ((o .answer ≡ 0 → ⊥) × (o .replica ≡ r)) → (p ≡ l) ⊎ Replied w p s (heldBy w l s .ballot)
+        go : HasReplied w p s ballot ⊎ ((o .answer ≡ 0 → ⊥) × (o .replica ≡ r)) → (p ≡ l) ⊎ HasReplied w p s (proposalAt w l s .ballot)
         go (inl x) =
-            inr (subst (Replied w p s)
+            inr (subst (HasReplied w p s)
             (sym (ap (λ (v : Slot). v .ballot) (numbered-place (r .sc .start) (r .window) s (low-of room (callAcceptReply p s ballot) h)) ∙ commit-at r room p s ballot h)) x)
         go (inr (n, _)) = absurd (List·Memᴰ·not-nil (subst (λ (y : List Act). commitOf s ∈ y) (refusals-silent r room (callAcceptReply p s ballot) n) h))
 
@@ -170,7 +170,7 @@ module _ (g : Group) (w : World) (reach : Reach g w) (l : ℕ) (pres : g .presen
     commit-replied = all-replied p (o .replica .window) (low-of room (callAcceptReply p s ballot) h) committed-now last-replied
 
     -- and in a truthful run what it commits is chosen
-    pub commit-chosen : Truthful reach → Chosen (g .size) (accepted w s) (heldBy w l s)
+    pub commit-chosen : Truthful reach → Chosen (g .size) (accepted w s) (proposalAt w l s)
     commit-chosen = is-chosen p (o .replica .window) (low-of room (callAcceptReply p s ballot) h) committed-now last-replied
 
   -- by the leader's own AcceptData entry
@@ -184,5 +184,5 @@ module _ (g : Group) (w : World) (reach : Reach g w) (l : ℕ) (pres : g .presen
     pub own-commit-replied : AllReplied w l s (acksOf (own-o .replica .window) (place (r .sc) s))
     own-commit-replied = all-replied (r .sc .id) (own-o .replica .window) (low-of room (callLogged (record { entry = AcceptData; slot = s; size = offset })) h) own-now (inl (inv g w reach .local l pres .id))
 
-    pub own-commit-chosen : Truthful reach → Chosen (g .size) (accepted w s) (heldBy w l s)
+    pub own-commit-chosen : Truthful reach → Chosen (g .size) (accepted w s) (proposalAt w l s)
     own-commit-chosen = is-chosen (r .sc .id) (own-o .replica .window) (low-of room (callLogged (record { entry = AcceptData; slot = s; size = offset })) h) own-now (inl (inv g w reach .local l pres .id))

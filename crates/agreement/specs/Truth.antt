@@ -41,7 +41,7 @@ use Rattle.agreement.specs.Theorem.{Group, World, slotOf, marksOf, upd, 
 use Rattle.agreement.specs.Runs.{Turn, times, offers, logs, gets, who, does, deliver, thing, happen, play, allPresent, getD-in, further, three, changed, late}
 use Rattle.agreement.specs.Acks.{Truthful}
 use Rattle.agreement.specs.Worlds.{accepted}
-use Rattle.agreement.specs.ChosenIf.{heldBy, commit-chosen}
+use Rattle.agreement.specs.ChosenIf.{proposalAt, commit-chosen}
 
 -- ── the condition as a test ──
 abbrev pub fairOne : Replica → Action → Bool
@@ -166,6 +166,6 @@ one-present : three .present 1 ≡ true
 unfolding three
 one-present = refl
 
-pub changed-chosen : Chosen (three .size) (accepted commitWorld 1) (heldBy commitWorld 1 1)
+pub changed-chosen : Chosen (three .size) (accepted commitWorld 1) (proposalAt commitWorld 1 1)
 changed-chosen =
     commit-chosen three commitWorld (until-true .0) 1 one-present 1 3456 2 514 (message 2 lastReply _ reply-was-sent (List·Memᴰ·head refl)) commit-met (until-true .1)

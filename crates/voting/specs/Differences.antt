@@ -39,7 +39,7 @@ use Rattle.laws.specs.WaysMessages.{prepareWindow, prepareEnd, prepareStep-ways
 use Rattle.laws.specs.WaysLeadership.{leadWindow, leadTrigger, leadFrom, timeoutStep-ways}
 use Rattle.voting.specs.Paper.{answersPrepare, mayAccept}
 use Rattle.voting.specs.Windows.{Whole, whole-grown}
-use Rattle.voting.specs.Promises.{PrepareActs, AcceptActs, acceptEntry, acceptHigh, accept-told}
+use Rattle.voting.specs.Promises.{PrepareActs, AcceptActs, takenEntry, acceptHigh, accept-told}
 use Rattle.voting.specs.Reached.{Good, reached-prepare-iff, reached-accept-iff}
 use Rattle.voting.specs.Votes.{voteOf, vote-step}
 use Rattle.base.specs.Among.{_∈_}
@@ -131,10 +131,10 @@ prepare-puts-back r room peer trigger ballot h =
     (sweep-at (λ k s. preparedSlot ballot (prepareBook (r .sc) (prepareWindow r trigger) i peer) s) i (prepareEnd r trigger) (prepareWindow r trigger) i (omega arith) (le-refl i)
     (omega arith) (omega arith)))
 
-pub accept-puts-back : (r : Replica) (room peer slot ballot : ℕ) (b : Batch) → Whole (r .window) → acceptEntry slot ballot b ∈ step r room (callAccept peer slot ballot b) .actions
+pub accept-puts-back : (r : Replica) (room peer slot ballot : ℕ) (b : Batch) → Whole (r .window) → takenEntry slot ballot b ∈ step r room (callAccept peer slot ballot b) .actions
     → atPlace (step r room (callAccept peer slot ballot b) .replica .window) (place (r .sc) slot) .status ≡ accepting
 accept-puts-back r room peer slot ballot b h =
-    acceptStep-ways (λ (o : Outcome). acceptEntry slot ballot b ∈ o .actions → atPlace (o .replica .window) (place (r .sc) slot) .status ≡ accepting) r room peer slot ballot b
+    acceptStep-ways (λ (o : Outcome). takenEntry slot ballot b ∈ o .actions → atPlace (o .replica .window) (place (r .sc) slot) .status ≡ accepting) r room peer slot ballot b
     (λ a l m. absurd (List·Memᴰ·not-nil m))
     (λ f m.
     let i : ℕ = place (r .sc) slot in

@@ -164,16 +164,16 @@ module _ (r : Replica) (room peer trigger ballot : ℕ) (f : ready r room ≡ tr
 abbrev pub acceptHigh : Replica → ℕ → ℕ → Bool
 acceptHigh r slot ballot = ltb ballot (slotAt (worked r slot) (place (r .sc) slot) .ballot)
 
-abbrev pub acceptEntry : ℕ → ℕ → Batch → Act
-acceptEntry slot ballot b = act (AcceptData (proposal slot ballot (clean b))) (clean b .keys)
+abbrev pub takenEntry : ℕ → ℕ → Batch → Act
+takenEntry slot ballot b = act (AcceptData (proposal slot ballot (clean b))) (clean b .keys)
 
 abbrev pub acceptSays : Scalars → ℕ → ℕ → Batch → Says
 acceptSays sc slot ballot b =
     pick (stepsDown sc ballot) (Two StatusDown (AcceptData (proposal slot ballot (clean b)))) (One (AcceptData (proposal slot ballot (clean b))))
 
-pub accept-entry-in : (sc : Scalars) (slot ballot : ℕ) (b : Batch) → acceptEntry slot ballot b ∈ saysActs (acceptSays sc slot ballot b) (clean b .keys)
+pub accept-entry-in : (sc : Scalars) (slot ballot : ℕ) (b : Batch) → takenEntry slot ballot b ∈ saysActs (acceptSays sc slot ballot b) (clean b .keys)
 accept-entry-in sc slot ballot b =
-    pick-both (λ (x : Says). acceptEntry slot ballot b ∈ saysActs x (clean b .keys)) (stepsDown sc ballot) (List·Memᴰ·tail (List·Memᴰ·head refl)) (List·Memᴰ·head refl)
+    pick-both (λ (x : Says). takenEntry slot ballot b ∈ saysActs x (clean b .keys)) (stepsDown sc ballot) (List·Memᴰ·tail (List·Memᴰ·head refl)) (List·Memᴰ·head refl)
 
 module _ (r : Replica) (room peer slot ballot : ℕ) (b : Batch) (f : ready r room ≡ true) (p : isPeer (r .sc) peer ≡ true) (o : owns ballot peer ≡ true)
     (q : isBatch (b .id) (b .count) ≡ true) (l : r .sc .start ≤ slot) (u : slot < r .sc .start + 64) where
@@ -196,23 +196,23 @@ module _ (r : Replica) (room peer slot ballot : ℕ) (b : Batch) (f : ready r ro
 
   -- it acts: answer 0, and its entry is to be written
   abbrev pub AcceptActs : Type 0
-  AcceptActs = (step r room (callAccept peer slot ballot b) .answer ≡ 0) × (acceptEntry slot ballot b ∈ step r room (callAccept peer slot ballot b) .actions)
+  AcceptActs = (step r room (callAccept peer slot ballot b) .answer ≡ 0) × (takenEntry slot ballot b ∈ step r room (callAccept peer slot ballot b) .actions)
 
   abbrev pub MayAccept : Type 0
   MayAccept = (r .sc .«bal_max_seen» ≤ ballot) × (acceptHigh r slot ballot ≡ false) × (overfull (r .keys) (clean b) ≡ false)
 
   accept-only : AcceptActs → MayAccept
   accept-only (a, m) =
-      let P : Outcome → Type 0 = λ z. acceptEntry slot ballot b ∈ z .actions → MayAccept in
+      let P : Outcome → Type 0 = λ z. takenEntry slot ballot b ∈ z .actions → MayAccept in
       pick-cases P (ltb ballot (r .sc .«bal_max_seen»)) (λ x n. absurd (List·Memᴰ·not-nil n))
       (λ x. pick-cases P (acceptHigh r slot ballot) (λ y n. absurd (List·Memᴰ·not-nil n))
       (λ y. pick-cases P (overfull (r .keys) (clean b)) (λ z n. absurd (List·Memᴰ·not-nil n)) (λ z n. (ltb-false ballot (r .sc .«bal_max_seen») x, y, z))))
-      (subst (λ (z : Outcome). acceptEntry slot ballot b ∈ z .actions) accept-told m)
+      (subst (λ (z : Outcome). takenEntry slot ballot b ∈ z .actions) accept-told m)
 
   accept-then : MayAccept → AcceptActs
   accept-then (x, y, z) =
       let e : step r room (callAccept peer slot ballot b) ≡ accepted r peer slot ballot b = accept-told ∙ rw (le-ltb ballot (r .sc .«bal_max_seen») x, y, z) in
-      (ap (λ (w : Outcome). w .answer) e, subst (λ (w : Outcome). acceptEntry slot ballot b ∈ w .actions) (sym e) (accept-entry-in (r .sc) slot ballot b))
+      (ap (λ (w : Outcome). w .answer) e, subst (λ (w : Outcome). takenEntry slot ballot b ∈ w .actions) (sym e) (accept-entry-in (r .sc) slot ballot b))
 
   pub accept-iff : AcceptActs ↔ MayAccept
   accept-iff = (accept-only, accept-then)

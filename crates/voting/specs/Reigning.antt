@@ -167,8 +167,8 @@ open-low w = go (decide (ltb (firstOpen w) (w .len)))
 redone-low : (b trigger endprep : ℕ) (s : Slot) → s .status < 3 → redoneSlot b (newBook trigger endprep) s .ballot ≡ b
 redone-low b trigger endprep s l = rw (lt-leb 4 (s .status) (omega arith), lt-leb 3 (s .status) l)
 
-abbrev stepped : Replica → Claim
-stepped r a sc w acts = (sc .«bal_prep_sent» ≡ r .sc .«bal_prep_sent» → ⊥) → (leads sc ≡ true) × (atPlace w (firstOpen (r .window)) .ballot ≡ sc .«bal_prep_sent»)
+abbrev upAt : Replica → Claim
+upAt r a sc w acts = (sc .«bal_prep_sent» ≡ r .sc .«bal_prep_sent» → ⊥) → (leads sc ≡ true) × (atPlace w (firstOpen (r .window)) .ballot ≡ sc .«bal_prep_sent»)
 
 led-stands : (r : Replica) (source b : ℕ) → Good (r .sc) (r .window) → Leads r source b → atPlace (led r b .replica .window) (firstOpen (r .window)) .ballot ≡ b
 led-stands r source b g f =
@@ -186,9 +186,9 @@ pub step-up-stands : (r : Replica) (c : Lent) (source : ℕ) → c .call ≡ cal
     → (told r c .replica .sc .«bal_prep_sent» ≡ r .sc .«bal_prep_sent» → ⊥) → Stood (told r c .replica) (firstOpen (r .window)) (told r c .replica .sc .«bal_prep_sent»)
 unfolding of
 step-up-stands r c source q g n =
-    let both : of (stepped r) (step r (c .room) (c .call)) =
-    subst (λ (k : Call). of (stepped r) (step r (c .room) k)) (sym q)
-    (timeoutStep-ways (of (stepped r)) r (c .room) source (λ a l n. absurd (n refl)) (λ b f n. (eq-eqb (r .sc .id) (r .sc .id) refl, led-stands r source b g f))) in
+    let both : of (upAt r) (step r (c .room) (c .call)) =
+    subst (λ (k : Call). of (upAt r) (step r (c .room) k)) (sym q)
+    (timeoutStep-ways (of (upAt r)) r (c .room) source (λ a l n. absurd (n refl)) (λ b f n. (eq-eqb (r .sc .id) (r .sc .id) refl, led-stands r source b g f))) in
     record { leading = both n .0; same = refl; at = both n .1 }
 
 -- ── the whole sentence ──
