@@ -119,14 +119,14 @@ start-follows g m p =
     (g .made m p)
 
 -- ── who is in accept_acks ──
-abbrev sentOf : Replica → ℕ
+abbrev pub sentOf : Replica → ℕ
 sentOf r = r .sc .«bal_prep_sent»
 
 -- at whoever leads, of each slot at its ballot
-abbrev Behind : World → ℕ → Replica → Type 0
+abbrev pub Behind : World → ℕ → Replica → Type 0
 Behind w l r = (i p : ℕ) → Stood r i (sentOf r) → has (stands r i .accept) p ≡ true → (p ≡ l) ⊎ HasReplied w p (number (r .sc) i) (sentOf r)
 
-abbrev AcksSent : Group → World → Type 0
+abbrev pub AcksSent : Group → World → Type 0
 AcksSent g w = (l : ℕ) → g .present l ≡ true → Behind w l (w .replica l)
 
 -- how it came by a call, with the call as an equation

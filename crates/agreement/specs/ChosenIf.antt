@@ -44,6 +44,28 @@ proposalAt w l s = record { ballot = slotOf (w .replica l) s .ballot; batch = sl
 abbrev pub AllReplied : World → ℕ → ℕ → ℕ → Type 0
 AllReplied w l s set = (m : ℕ) → has set m ≡ true → (m ≡ l) ⊎ HasReplied w m s (proposalAt w l s .ballot)
 
+-- a leader l commits slot s by an AcceptReply from p: each member in accept_acks then is l, or has sent an AcceptReply for s at this ballot
+abbrev pub CommitReplied : Type 0
+CommitReplied = (g : Group) (w : World) → Reach g w → (l : ℕ) → g .present l ≡ true → (s room p ballot : ℕ) → May w l room (callAcceptReply p s ballot)
+    → commitOf s ∈ step (w .replica l) room (callAcceptReply p s ballot) .actions
+    → AllReplied w l s (acksOf (step (w .replica l) room (callAcceptReply p s ballot) .replica .window) (place (w .replica l .sc) s))
+
+-- and in a truthful run what it commits is chosen
+abbrev pub CommitChosen : Type 0
+CommitChosen = (g : Group) (w : World) (r : Reach g w) → Truthful r → (l : ℕ) → g .present l ≡ true → (s room p ballot : ℕ) → May w l room (callAcceptReply p s ballot)
+    → commitOf s ∈ step (w .replica l) room (callAcceptReply p s ballot) .actions → Chosen (g .size) (accepted w s) (proposalAt w l s)
+
+-- the same where l commits by its own AcceptData entry
+abbrev pub OwnCommitReplied : Type 0
+OwnCommitReplied = (g : Group) (w : World) → Reach g w → (l : ℕ) → g .present l ≡ true → (s room offset : ℕ)
+    → commitOf s ∈ step (w .replica l) room (callLogged (record { entry = AcceptData; slot = s; size = offset })) .actions
+    → AllReplied w l s (acksOf (step (w .replica l) room (callLogged (record { entry = AcceptData; slot = s; size = offset })) .replica .window) (place (w .replica l .sc) s))
+
+abbrev pub OwnCommitChosen : Type 0
+OwnCommitChosen = (g : Group) (w : World) (r : Reach g w) → Truthful r → (l : ℕ) → g .present l ≡ true → (s room offset : ℕ)
+    → commitOf s ∈ step (w .replica l) room (callLogged (record { entry = AcceptData; slot = s; size = offset })) .actions
+    → Chosen (g .size) (accepted w s) (proposalAt w l s)
+
 -- ── every member's group is the group ──
 made-sized : (g : Group) (m : ℕ) → g .present m ≡ true → begin g .replica m .sc .group ≡ g .size
 unfolding begin newReplica
@@ -165,13 +187,11 @@ module _ (g : Group) (w : World) (reach : Reach g w) (l : ℕ) (pres : g .presen
     committed-now : Committed r (o .replica .window) (place (r .sc) s) p
     committed-now = commit-by-reply r room p s ballot (fine-in g w reach l pres .whole) h
 
-    -- 2.2: each member in accept_acks as it commits has sent an AcceptReply for this slot at this ballot, or is self
-    pub commit-replied : AllReplied w l s (acksOf (o .replica .window) (place (r .sc) s))
-    commit-replied = all-replied p (o .replica .window) (low-of room (callAcceptReply p s ballot) h) committed-now last-replied
+    by-reply-replied : AllReplied w l s (acksOf (o .replica .window) (place (r .sc) s))
+    by-reply-replied = all-replied p (o .replica .window) (low-of room (callAcceptReply p s ballot) h) committed-now last-replied
 
-    -- and in a truthful run what it commits is chosen
-    pub commit-chosen : Truthful reach → Chosen (g .size) (accepted w s) (proposalAt w l s)
-    commit-chosen = is-chosen p (o .replica .window) (low-of room (callAcceptReply p s ballot) h) committed-now last-replied
+    by-reply-chosen : Truthful reach → Chosen (g .size) (accepted w s) (proposalAt w l s)
+    by-reply-chosen = is-chosen p (o .replica .window) (low-of room (callAcceptReply p s ballot) h) committed-now last-replied
 
   -- by the leader's own AcceptData entry
   module _ (room offset : ℕ) (h : commitOf s ∈ step r room (callLogged (record { entry = AcceptData; slot = s; size = offset })) .actions) where
@@ -181,8 +201,21 @@ module _ (g : Group) (w : World) (reach : Reach g w) (l : ℕ) (pres : g .presen
     own-now : Committed r (own-o .replica .window) (place (r .sc) s) (r .sc .id)
     own-now = commit-by-own r room s offset (fine-in g w reach l pres .whole) h
 
-    pub own-commit-replied : AllReplied w l s (acksOf (own-o .replica .window) (place (r .sc) s))
-    own-commit-replied = all-replied (r .sc .id) (own-o .replica .window) (low-of room (callLogged (record { entry = AcceptData; slot = s; size = offset })) h) own-now (inl (inv g w reach .local l pres .id))
+    by-own-replied : AllReplied w l s (acksOf (own-o .replica .window) (place (r .sc) s))
+    by-own-replied = all-replied (r .sc .id) (own-o .replica .window) (low-of room (callLogged (record { entry = AcceptData; slot = s; size = offset })) h) own-now (inl (inv g w reach .local l pres .id))
 
-    pub own-commit-chosen : Truthful reach → Chosen (g .size) (accepted w s) (proposalAt w l s)
-    own-commit-chosen = is-chosen (r .sc .id) (own-o .replica .window) (low-of room (callLogged (record { entry = AcceptData; slot = s; size = offset })) h) own-now (inl (inv g w reach .local l pres .id))
+    by-own-chosen : Truthful reach → Chosen (g .size) (accepted w s) (proposalAt w l s)
+    by-own-chosen = is-chosen (r .sc .id) (own-o .replica .window) (low-of room (callLogged (record { entry = AcceptData; slot = s; size = offset })) h) own-now (inl (inv g w reach .local l pres .id))
+
+-- ── the theorems ──
+pub commit-replied : CommitReplied
+commit-replied g w reach l pres s room p ballot a h = by-reply-replied g w reach l pres s room p ballot a h
+
+pub commit-chosen : CommitChosen
+commit-chosen g w reach t l pres s room p ballot a h = by-reply-chosen g w reach l pres s room p ballot a h t
+
+pub own-commit-replied : OwnCommitReplied
+own-commit-replied g w reach l pres s room offset h = by-own-replied g w reach l pres s room offset h
+
+pub own-commit-chosen : OwnCommitChosen
+own-commit-chosen g w reach t l pres s room offset h = by-own-chosen g w reach l pres s room offset h t

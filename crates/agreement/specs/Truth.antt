@@ -168,4 +168,4 @@ one-present = refl
 
 pub changed-chosen : Chosen (three .size) (accepted commitWorld 1) (proposalAt commitWorld 1 1)
 changed-chosen =
-    commit-chosen three commitWorld (until-true .0) 1 one-present 1 3456 2 514 (message 2 lastReply _ reply-was-sent (List·Memᴰ·head refl)) commit-met (until-true .1)
+    commit-chosen three commitWorld (until-true .0) (until-true .1) 1 one-present 1 3456 2 514 (message 2 lastReply _ reply-was-sent (List·Memᴰ·head refl)) commit-met
