@@ -4,3 +4,4 @@ pub mod Gather
 pub mod Find
 pub mod Scan
 pub mod Among
+pub mod Tables

@@ -3,14 +3,15 @@ use mathlib.Core.Path.{_≡_, refl, sym, ap, _∙_}
 use mathlib.Core.Bool.{true, false, _||_, and-false, or-true}
 use mathlib.Core.Logic.{_⊎_, inl, inr}
 use Prim.Native.Nat.{ℕ, zero, suc, _+_, _-_, _*_, _/_, _%_, _^_, _≤_, _<_}
-use native.Mathlib.Nat.{lt-of-lt-of-le, div-one, div-eq-of-lt, div-div-eq-div-mul, pow-succ', le-div-iff-mul-le, zero-add}
+use native.Mathlib.Nat.{lt-of-lt-of-le, div-one, div-eq-of-lt, div-div-eq-div-mul, pow-suc, pow-succ', le-div-iff-mul-le}
 use native.Mathlib.Omega.{arith}
 use lib.Dec.{ltb, leb, eqb, eqb·zero-suc, eqb·suc-zero, eqb·suc-suc}
 use lib.Pow.{pow-pos, pow-mono}
+use lib.Arith.{mod-mul}
 use borrow.Author.Tests.{lt-ltb, le-ltb, le-leb, lt-leb, eq-eqb, ne-eqb, ltb-true, ltb-false, leb-true, eqb-true, eqb-false}
 use Rattle.base.specs.Pick.{pick, tests, decide, and-left, and-right, or-false}
-use Rattle.members.specs.Sets.{has, insert, one, count, countIn, fitsGroup}
-use Rattle.members.specs.Counting.{count-most, count-none, count-cut, count-put, overlap}
+use Rattle.members.specs.Sets.{has, insert, count, countIn, fitsGroup}
+use Rattle.members.specs.Counting.{count-same, count-most, count-none, count-cut, count-put, overlap}
 use Rattle.members.specs.Groups.{groupSize, quorumOf}
 use Rattle.members.specs.Ballots.{owns, ownerOf, ballotAbove, nextBallot}
 use Rattle.members.specs.declared.Owner.the-variants.{Member}
@@ -45,6 +46,17 @@ set-below x zero (suc n) h l z = omega (arith, first x)
 set-below x (suc i) (suc n) h l z =
     let g : x / 2 / 2 ^ i % 2 ≡ 0 = rw half at z in
     omega (arith, set-below (x / 2) i n (omega arith) (omega arith) g)
+
+-- what is left modulo 2 ^ (n + 1) has bit 0 of the number, and above it what is left of the half
+low-half : (x n : ℕ) → x % 2 ^ suc n ≡ x / 2 % 2 ^ n * 2 + x % 2
+low-half x n = ap (λ (d : ℕ). x % d) (pow-suc 2 n) ∙ mod-mul x (pow-pos n) (omega arith)
+
+-- so below bit n its bits are the number's own
+low-bit : (x i n : ℕ) → i < n → x % 2 ^ n / 2 ^ i % 2 ≡ x / 2 ^ i % 2
+low-bit x zero (suc n) l = omega (arith, low-half x n, first x, first (x % 2 ^ suc n))
+low-bit x (suc i) (suc n) l =
+    let e : x % 2 ^ suc n / 2 ≡ x / 2 % 2 ^ n = omega (arith, low-half x n) in
+    rw (half (x % 2 ^ suc n) i, half x i, e) (low-bit (x / 2) i n (omega arith))
 
 -- ── who is in a set ──
 
@@ -188,6 +200,15 @@ count-new set i s l e =
 pub count-again : (set i : ℕ) → has set i ≡ true → countIn (insert set i) ≡ countIn set
 count-again set i e = ap countIn (insert-again set i e)
 
+-- a number's members are those of its bits 0 to 8
+pub count-low : (set : ℕ) → countIn (set % 512) ≡ countIn set
+unfolding countIn
+count-low set = count-same 9 (has (set % 512)) (has set) same
+  where
+    same : (i : ℕ) → i < 9 → has (set % 512) i ≡ has set i
+    same i l =
+        has-bit (set % 512) i (omega arith) ∙ ap (λ (b : ℕ). eqb b 1) (low-bit set i 9 l) ∙ sym (has-bit set i (omega arith))
+
 -- a group has 1 to 9 members
 pub group-bounds : (n : ℕ) → groupSize n ≡ true → (0 < n) × (n ≤ 9)
 group-bounds n e =
@@ -202,19 +223,6 @@ quorum-most n l = omega arith
 pub quorums-meet : (n a b : ℕ) → n ≤ 9 → fitsGroup a n ≡ true → fitsGroup b n ≡ true → quorumOf n ≤ countIn a → quorumOf n ≤ countIn b
     → (i : ℕ) × (i < n) × (has a i ≡ true) × (has b i ≡ true)
 quorums-meet n a b l f g p q = overlap n (has a) (has b) (omega (arith, count-group a n l f, count-group b n l g))
-
--- the sum of the nine bits, as the code adds them
-pub count-sum : (set : ℕ)
-    → set % 2 + set / 2 % 2 + set / 4 % 2 + set / 8 % 2 + set / 16 % 2 + set / 32 % 2 + set / 64 % 2 + set / 128 % 2 + set / 256 % 2 ≡ countIn set
-unfolding countIn count has
-count-sum set = sym (simp (bit, first, zero-add))
-  where
-    bit : (x : ℕ) → one (eqb (x % 2) 1) ≡ x % 2
-    bit x = go (decide (eqb (x % 2) 1))
-      where
-        go : (eqb (x % 2) 1 ≡ true) ⊎ (eqb (x % 2) 1 ≡ false) → one (eqb (x % 2) 1) ≡ x % 2
-        go (inl e) = rw e (omega (arith, tests))
-        go (inr e) = rw e (omega (arith, tests))
 
 -- ── shifts, as the code has them ──
 

@@ -3,3 +3,4 @@ pub mod Groups
 pub mod Ballots
 pub mod Counting
 pub mod Laws
+pub mod Table

@@ -1,8 +1,11 @@
 // Members of a group: sets of them as bits of a number, quorums, and the ballots that each of them makes.
+mod table;
+
 ghost use mathlib.Core.Path.{_≡_};
 ghost use Rattle.members.specs.Sets.{has, insert, countIn, fitsGroup};
 ghost use Rattle.members.specs.Groups.{groupSize, quorumOf};
 ghost use Rattle.members.specs.Ballots.{owns, ownerOf, nextBallot};
+use table::COUNTS;
 
 // Who made a ballot.
 pub enum Owner {
@@ -46,15 +49,7 @@ pub fn with(set: u64, member: u64) -> u64
 pub fn count(set: u64) -> u64
     ensures { λ r. ⌜ r ≡ countIn set ⌝ }
 {
-    set % 2
-        + set / 2 % 2
-        + set / 4 % 2
-        + set / 8 % 2
-        + set / 16 % 2
-        + set / 32 % 2
-        + set / 64 % 2
-        + set / 128 % 2
-        + set / 256 % 2
+    COUNTS[(set % 512) as usize] as u64
 }
 
 // Whether a set has no member outside a group of n.

@@ -1,45 +1,28 @@
+use mathlib.Core.Path.{_≡_}
+use Prim.Native.Nat.{ℕ}
+use native.Mathlib.Omega.{arith}
+use mir.Syntax.{w64}
+use mir.Val.{Fits}
 use borrow.Author.Needs.{needs}
-use Rattle.members.specs.Laws.{count-sum}
+use Rattle.members.specs.Sets.{has, count, countIn}
+use Rattle.members.specs.Laws.{count-nine}
+use Rattle.members.specs.Table.{table-counts}
 use Rattle.members.proofs.count.Statement.{statement}
 use Rattle.members.proofs.count.Tie as tie
 
-add-result : tie.Need-add-result
-add-result c = search needs
+array-read-result : tie.Need-array-read-result
+array-read-result c = search needs
 
-add-result-2 : tie.Need-add-result-2
-add-result-2 c = search needs
-
-add-result-3 : tie.Need-add-result-3
-add-result-3 c = search needs
-
-add-result-4 : tie.Need-add-result-4
-add-result-4 c = search needs
-
-add-result-5 : tie.Need-add-result-5
-add-result-5 c = search needs
-
-add-result-6 : tie.Need-add-result-6
-add-result-6 c = search needs
-
-add-result-7 : tie.Need-add-result-7
-add-result-7 c = search needs
-
-add-result-8 : tie.Need-add-result-8
-add-result-8 c = search needs
-
+-- here the test is computed over the whole table: with one wrong entry `allRight` is false, and nothing is found
 returns : tie.Need-returns
-returns c = count-sum (c .args .set)
+unfolding has count countIn
+returns c = search table-counts
+
+small : (set : ℕ) {n : ℕ} → n ≡ countIn set → Fits w64 n
+small set e = record { fits = omega (arith, e, count-nine set) }
+
+cast-result : tie.Need-cast-result
+cast-result c = small (c .args .set) (returns c)
 
 pub count-spec : {M : Type 1} → statement M
-count-spec =
-    tie.close
-    (tie.spec
-    add-result
-    add-result-2
-    add-result-3
-    add-result-4
-    add-result-5
-    add-result-6
-    add-result-7
-    add-result-8
-    returns)
+count-spec = tie.close (tie.spec array-read-result cast-result returns)
