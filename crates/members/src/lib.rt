@@ -45,7 +45,7 @@ pub fn with(set: u64, member: u64) -> u64
     set + (1 << member)
 }
 
-// How many of the members 0 to 8 are in a set.
+// How many of the members 0 to 8 are in a set: what the table says of its bits 0 to 8.
 pub fn count(set: u64) -> u64
     ensures { λ r. ⌜ r ≡ countIn set ⌝ }
 {

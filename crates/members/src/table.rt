@@ -1,6 +1,7 @@
 // The vote count: how many members each of the 512 sets has; entry k is that of the set k. The program `counts` prints it.
 
 pub(crate) const COUNTS: [u8; 512] = [
+    // The sets 0 to 63.
     0,
     1,
     1,
@@ -65,6 +66,7 @@ pub(crate) const COUNTS: [u8; 512] = [
     5,
     5,
     6,
+    // The sets 64 to 127.
     1,
     2,
     2,
@@ -129,6 +131,7 @@ pub(crate) const COUNTS: [u8; 512] = [
     6,
     6,
     7,
+    // The sets 128 to 191.
     1,
     2,
     2,
@@ -193,6 +196,7 @@ pub(crate) const COUNTS: [u8; 512] = [
     6,
     6,
     7,
+    // The sets 192 to 255.
     2,
     3,
     3,
@@ -257,6 +261,7 @@ pub(crate) const COUNTS: [u8; 512] = [
     7,
     7,
     8,
+    // The sets 256 to 319.
     1,
     2,
     2,
@@ -321,6 +326,7 @@ pub(crate) const COUNTS: [u8; 512] = [
     6,
     6,
     7,
+    // The sets 320 to 383.
     2,
     3,
     3,
@@ -385,6 +391,7 @@ pub(crate) const COUNTS: [u8; 512] = [
     7,
     7,
     8,
+    // The sets 384 to 447.
     2,
     3,
     3,
@@ -449,6 +456,7 @@ pub(crate) const COUNTS: [u8; 512] = [
     7,
     7,
     8,
+    // The sets 448 to 511.
     3,
     4,
     4,
