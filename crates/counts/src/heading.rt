@@ -52,26 +52,26 @@ fn set() {
     say::text(b"THE COLUMNS\n\n");
     say::text(b"set      the set's number in the program:\n");
     say::text(b"         what its members add, together\n\n");
-    places();
-    added();
-    say::end();
-}
-
-fn places() {
     say::text(b"place");
+    row(false);
+    say::text(b"adds ");
+    row(true);
+    say::end();
+}
+
+// The nine places, or what the member at each adds to a set's number.
+fn row(adds: bool) {
     for member in 0..9 {
-        say::next_three(member);
+        say::next_three(cell(member, adds));
     }
     say::end();
 }
 
-// What a member adds to a set's number.
-fn added() {
-    say::text(b"adds ");
-    for member in 0..9 {
-        say::next_three(members::with(0, member));
+fn cell(member: u64, adds: bool) -> u64 {
+    if adds {
+        return members::with(0, member);
     }
-    say::end();
+    member
 }
 
 fn columns() {

@@ -1,22 +1,19 @@
 use Prim.Native.Nat.{_-_, _≤_}
 use borrow.Author.Needs.{needs}
-use Rattle.counts.proofs.heading.places.Statement.{statement}
-use Rattle.counts.proofs.heading.places.Tie as tie
+use Rattle.counts.proofs.heading.row.Statement.{statement}
+use Rattle.counts.proofs.heading.row.Tie as tie
 
 abbrev Inv-loop : tie.InvT-loop
-Inv-loop member₀ member = member ≤ 9
+Inv-loop adds member₀ member = member ≤ 9
 
 abbrev μ-loop : tie.MeasureT-loop
-μ-loop member₀ member = 9 - member
-
-slice-aggregate-text : tie.Need-slice-aggregate-text Inv-loop μ-loop
-slice-aggregate-text c = search needs
-
-text-requires : tie.Need-text-requires Inv-loop μ-loop
-text-requires c κs = search needs
+μ-loop adds member₀ member = 9 - member
 
 loop-holds : tie.Need-loop-holds Inv-loop μ-loop
 loop-holds c = search needs
+
+cell-requires : tie.Need-cell-requires Inv-loop μ-loop
+cell-requires c κs = search needs
 
 next-three-requires : tie.Need-next-three-requires Inv-loop μ-loop
 next-three-requires c κs = search needs
@@ -36,15 +33,14 @@ end-requires c κs = search needs
 returns : tie.Need-returns Inv-loop μ-loop
 returns c = search needs
 
-pub places-spec : {M : Type 1} → statement M
-places-spec =
+pub row-spec : {M : Type 1} → statement M
+row-spec =
     tie.close
     (tie.spec
     Inv-loop
     μ-loop
-    slice-aggregate-text
-    text-requires
     loop-holds
+    cell-requires
     next-three-requires
     add-member
     loop-less
