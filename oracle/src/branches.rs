@@ -2,8 +2,10 @@
 
 use crate::action::{Action, Kind};
 use crate::call::{Call, Entry, Known};
+use crate::first_value::value_meets_nothing;
 use crate::host::Replica;
 use crate::host::multipaxos::{Instance, Knowledge, Status};
+use crate::rule::OLD_RULE;
 use crate::session::Outcome;
 
 /// A call that the source ran to its end.
@@ -319,9 +321,11 @@ pub const BRANCHES: &[Branch] = &[
             |known, held| matches!((known, held), (Known::Slot(new), Some((old, _))) if *new <= *old as u64),
         )
     }),
-    ("quorumread", "value over nothing is dropped", |s| {
-        read_reply(s, |known, held| matches!((known, held), (Known::Value(..), None)))
-    }),
+    (
+        "quorumread",
+        if OLD_RULE { "value over nothing is dropped" } else { "value over nothing is stored" },
+        |s| value_meets_nothing(s.before, s.call),
+    ),
     ("quorumread", "value over a slot alone not larger is stored", |s| {
         read_reply(
             s,

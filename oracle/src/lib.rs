@@ -1,5 +1,5 @@
-//! The Rust of summerset's voting core, run unchanged behind the calls, answers and actions of
-//! the scope document.
+//! The Rust of summerset's voting core, run behind the calls, answers and actions of the scope
+//! document: unchanged, but for the one branch that `rule` replaces.
 
 #[macro_use]
 mod host;
@@ -11,6 +11,7 @@ pub mod batch;
 pub mod branches;
 pub mod call;
 pub mod digest;
+pub mod first_value;
 mod foresee;
 pub mod generate;
 pub mod guard;
@@ -18,6 +19,7 @@ pub mod merges;
 pub mod play;
 pub mod record;
 pub mod refuse;
+pub mod rule;
 pub mod session;
 pub mod stats;
 pub mod tell;
@@ -25,6 +27,11 @@ pub mod tell;
 pub use host::Replica;
 // The source files name these from the root.
 use host::{manager, server, utils};
+
+/// The four modules, and the files that were compiled for them.
+pub fn source_files() -> impl Iterator<Item = (&'static str, &'static str)> {
+    host::multipaxos::SOURCE_MODULES.into_iter().zip(host::multipaxos::SOURCE_FILES)
+}
 
 /// Slots and bars are `usize` in the source and 64-bit numbers in the scope document.
 const _: () = assert!(usize::BITS == 64);

@@ -7,9 +7,11 @@ use std::process::ExitCode;
 use oracle::agree::{Agreement, agree};
 use oracle::baseline::{self, BUFFER};
 use oracle::digest::Digest;
+use oracle::first_value::{Departures, departs, without_first_values};
 use oracle::generate::{self, Profile};
 use oracle::merges::{merges_of, tell_merges};
 use oracle::play::play;
+use oracle::rule::OLD_RULE;
 use oracle::stats::Stats;
 use oracle::tell::Text;
 
@@ -21,6 +23,11 @@ const USAGE: &str = "usage:
   oracle agree TRACE
                    another program's told text of TRACE on standard input; the first record
                    that differs, or how many agree
+  oracle departs TRACE
+                   the same of a program that keeps the first value, with --old-rule: whether it
+                   differs exactly at the records where a value meets nothing held
+  oracle without-first-values
+                   with --old-rule: the trace without those records
   oracle merges-of a trace of the merges of each read that the trace opened, one read after another
   oracle merges    a trace of that form; for each read opened and each reply, the answer and what
                    the Rust knows of the read after it
@@ -28,9 +35,10 @@ const USAGE: &str = "usage:
                    what the trace reaches, or what the named traces reach together
   oracle gen SEED COUNT --profile group|fuzz|reads|mix|writes
                    writes a trace of COUNT records, fixed by the seed
-  oracle example worked|keys|refusals|late-0|late-1|late-2
+  oracle example worked|keys|refusals|late-0|late-1|late-2|first-value
                    writes a trace made by hand: 01's worked example, the key table's edge, both
-                   sides of 01's refusals, or a member of a run that commits one slot twice";
+                   sides of 01's refusals, a member of a run that commits one slot twice, or reads
+                   in which a value meets nothing held";
 
 enum Command {
     Replay,
@@ -38,6 +46,8 @@ enum Command {
     Digest,
     Baseline,
     Agree { trace: String },
+    Departs { trace: String },
+    WithoutFirstValues,
     MergesOf,
     Merges,
     Stats { traces: Vec<String> },
@@ -80,6 +90,13 @@ fn parse(words: &[String]) -> Result<Command, String> {
         ["merges"] => Ok(Command::Merges),
         ["agree", trace] => Ok(Command::Agree { trace: trace.to_string() }),
         ["agree", ..] => Err("agree takes TRACE".to_string()),
+        ["departs" | "without-first-values", ..] if !OLD_RULE => {
+            Err("only the Rust as it is can be parted from: --old-rule".to_string())
+        }
+        ["departs", trace] => Ok(Command::Departs { trace: trace.to_string() }),
+        ["departs", ..] => Err("departs takes TRACE".to_string()),
+        ["without-first-values"] => Ok(Command::WithoutFirstValues),
+        ["without-first-values", ..] => Err("without-first-values takes no arguments".to_string()),
         ["example", name] => Ok(Command::Example {
             trace: generate::example(name)
                 .ok_or_else(|| format!("no example is called '{name}'"))?,
@@ -133,6 +150,19 @@ fn run(command: Command) -> io::Result<ExitCode> {
             output.flush()?;
             return Ok(ExitCode::from(code));
         }
+        Command::Departs { trace } => {
+            let (said, code) = match departs(open(&trace)?, input)? {
+                Ok(Departures { records, first_values, later }) => {
+                    let exactly = format!("{first_values} where a value meets nothing held");
+                    (format!("{records} records, parting at {exactly}, {later} later\n"), 0)
+                }
+                Err(wrong) => (wrong.report(), 1),
+            };
+            output.write_all(said.as_bytes())?;
+            output.flush()?;
+            return Ok(ExitCode::from(code));
+        }
+        Command::WithoutFirstValues => without_first_values(input, &mut output)?,
         Command::Stats { traces } => {
             let mut stats = Stats::default();
             for trace in &traces {

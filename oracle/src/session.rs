@@ -50,6 +50,15 @@ impl Session {
         }
     }
 
+    /// Changes the replica by hand, as if it had come so.
+    pub(crate) fn change(&mut self, change: impl FnOnce(&mut Replica)) {
+        if let Some(live) = &mut self.live {
+            change(&mut live.replica);
+            live.copy = live.replica.clone();
+            live.since_copy.clear();
+        }
+    }
+
     pub fn call(&mut self, call: &Call) -> Outcome {
         if let Call::New { id, group, start, options } = *call {
             if refuse::new_replica_is_outside(id, group, start, options) {

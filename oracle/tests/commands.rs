@@ -152,8 +152,12 @@ fn a_trace_that_is_not_there_is_an_error() {
 
 #[test]
 fn bad_usage_is_an_error() {
-    let bad: [&[&str]; 17] = [
+    let bad: [&[&str]; 21] = [
         &[],
+        &["--old-rule"],
+        &["departs"],
+        &["departs", "one.trace", "two.trace"],
+        &["without-first-values", "trace"],
         &["merges", "trace"],
         &["merges-of", "trace"],
         &["baseline", "trace"],

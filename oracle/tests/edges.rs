@@ -5,6 +5,7 @@ mod common;
 use common::*;
 use oracle::action::Kind;
 use oracle::call::Known;
+use oracle::rule::OLD_RULE;
 
 fn fresh() -> Member {
     Member::new(2, 3, 0)
@@ -70,12 +71,14 @@ fn in_a_group_of_5_the_third_accept_reply_commits() {
     assert_eq!(leader.status(0), 3);
 }
 
+/// 02: it "holds the value"; by the old rule "the slot alone".
 #[test]
-fn slot_and_value_into_an_empty_tally_holds_the_slot_alone() {
+fn slot_and_value_into_an_empty_tally() {
     let mut member = fresh();
     member.does(open_read(7, &[40]));
     member.does(read_reply(0, 7, &[Known::Value(5, 9)]));
-    assert_eq!(member.reads(), [[7, 1, 1, 40, 1, 5, 0]]);
+    let held = if OLD_RULE { [7, 1, 1, 40, 1, 5, 0] } else { [7, 1, 1, 40, 2, 5, 9] };
+    assert_eq!(member.reads(), [held]);
 }
 
 #[test]

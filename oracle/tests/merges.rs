@@ -1,5 +1,6 @@
-//! `crates/merges`: its input and its output are what the oracle makes of the stored reads now, and
-//! they hold every case of a merge.
+//! `crates/merges`: its input and its output are what the oracle makes of the stored reads now, by the
+//! new rule, and they hold every case of a merge.
+#![cfg(not(feature = "old-rule"))]
 
 use std::collections::BTreeSet;
 use std::fs;

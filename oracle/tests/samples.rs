@@ -6,6 +6,7 @@ use std::path::{Path, PathBuf};
 use oracle::digest::Digest;
 use oracle::generate::example;
 use oracle::play::play;
+use oracle::rule::OLD_RULE;
 use oracle::stats::Stats;
 use oracle::tell::Text;
 
@@ -24,8 +25,11 @@ fn traces() -> Vec<PathBuf> {
     traces
 }
 
+/// What the old rule says otherwise of a trace stands apart.
 fn stored(trace: &Path, extension: &str) -> String {
     let path = trace.with_extension(extension);
+    let old = folder().join("old-rule").join(path.file_name().expect("a sample"));
+    let path = if OLD_RULE && old.exists() { old } else { path };
     fs::read_to_string(&path).unwrap_or_else(|error| panic!("{}: {error}", path.display()))
 }
 
@@ -47,22 +51,25 @@ fn replay_and_digest_are_as_stored() {
 
 #[test]
 fn the_traces_made_by_hand_are_as_stored() {
-    for name in ["worked", "keys", "refusals", "late-0", "late-1", "late-2"] {
+    for name in ["worked", "keys", "refusals", "late-0", "late-1", "late-2", "first-value"] {
         let stored = fs::read(folder().join(name).with_extension("trace")).expect("a trace");
         assert!(example(name).expect("it is there") == stored, "{name}: the trace differs");
     }
 }
 
+/// Two are stored whole; the second by the new rule.
 #[test]
-fn the_worked_example_is_told_as_stored() {
-    let trace = folder().join("worked.trace");
-    let mut text = Text::default();
-    play(fs::File::open(&trace).expect("a trace"), |played| {
-        text.told(played.number, played.outcome, played.replica);
-        Ok(())
-    })
-    .expect("the trace is read");
-    assert_eq!(String::from_utf8(text.bytes).expect("ASCII"), stored(&trace, "tell"));
+fn the_told_text_is_as_stored() {
+    for name in if OLD_RULE { &["worked"][..] } else { &["worked", "first-value"] } {
+        let trace = folder().join(name).with_extension("trace");
+        let mut text = Text::default();
+        play(fs::File::open(&trace).expect("a trace"), |played| {
+            text.told(played.number, played.outcome, played.replica);
+            Ok(())
+        })
+        .expect("the trace is read");
+        assert_eq!(String::from_utf8(text.bytes).expect("ASCII"), stored(&trace, "tell"));
+    }
 }
 
 #[test]

@@ -1,4 +1,5 @@
--- 01, "Both sides of each edge": the cases marked P, as one list of runs with one claim about all of them, closed by computation.
+-- 01, "Both sides of each edge": the cases marked P, with what 02 changes of them and adds, as one list of runs with one claim about all of them, closed
+-- by computation.
 use mathlib.Core.Bool.{Bool, true, false, _&&_, _||_, not}
 use mathlib.Core.List.{List, [], _∷_, _++_}
 use Prim.Native.Nat.{ℕ}
@@ -10,8 +11,10 @@ use Rattle.members.specs.Sets.{has, insert, count, countIn}
 use Rattle.batch.specs.declared.Batch.{Batch}
 use Rattle.batch.specs.Batches.{makeBatch, sameList}
 use Rattle.batch.specs.Keys.{placeIn, noteKey, noteKeys, newKeys, overfullIn}
-use Rattle.tally.specs.declared.Best.the-variants.{Value}
+use Rattle.tally.specs.declared.Best.{Best}
+use Rattle.tally.specs.declared.Best.the-variants.{Nothing, Slot as SlotAlone, Value}
 use Rattle.tally.specs.declared.Tally.{Tally}
+use Rattle.tally.specs.declared.Read.{Read}
 use Rattle.tally.specs.Merge.{noBest, bestNumbers, bestAt, merge}
 use Rattle.tally.specs.Open.{noRead, findRead, openRead, closeRead, putRead, replyTo, fitReads}
 use Rattle.actions.specs.Actions.{flat}
@@ -34,15 +37,21 @@ use Rattle.replica.specs.Quorumread.{openReadStep, repliedStep, readRepl
 use Rattle.replica.specs.Added.{offerStep, movedExec, executedStep}
 use Rattle.replica.specs.Step.{Call, callPrepare, callPrepareReply, callAcceptReply, callTimeout, callLogged, callOpenRead, callReadReply, step}
 
--- what is looked at after a call: the slots present, the largest ballot seen, the believed leader, the status of slot 0,
--- and what the first open read knows of its first key
+-- a read: its id, the members acknowledged, and of each key the key, tag, slot and value
+abbrev pub keyNumbers : Read → ℕ → List ℕ
+keyNumbers q i =
+    getD (q .keys) i 0 ∷ bestNumbers (bestAt (q .tally) i) .0 ∷ bestNumbers (bestAt (q .tally) i) .1 ∷ bestNumbers (bestAt (q .tally) i) .2 ∷ []
+
+abbrev pub readNumbers : Read → List ℕ
+readNumbers q = q .id ∷ q .acks ∷ gather (keyNumbers q) 0 (q .tally .count)
+
+-- every open read
+abbrev pub openReads : Replica → List ℕ
+openReads r = gather (λ i. readNumbers (getD (r .reads .reads) i noRead)) 0 (r .reads .count)
+
+-- what is looked at after a call: the slots present, the largest ballot seen, the believed leader, the status of slot 0, and every open read
 abbrev pub look : Replica → List ℕ
-look r =
-    r .window .len ∷ r .sc .«bal_max_seen» ∷ r .sc .leader ∷ slotAt (r .window) 0 .status
-    ∷ bestNumbers (bestAt (getD (r .reads .reads) 0 noRead .tally) 0) .0
-    ∷ bestNumbers (bestAt (getD (r .reads .reads) 0 noRead .tally) 0) .1
-    ∷ bestNumbers (bestAt (getD (r .reads .reads) 0 noRead .tally) 0) .2
-    ∷ []
+look r = r .window .len ∷ r .sc .«bal_max_seen» ∷ r .sc .leader ∷ slotAt (r .window) 0 .status ∷ openReads r
 
 -- one call, and what is to come of it: the answer, what is seen after it, the actions' numbers, and whether the whole record stays as it was
 pub record Turn : Type 0 where
@@ -84,7 +93,8 @@ whole r =
     scalarNumbers (r .sc)
     ++ ((flagOf (r .bars .own) ∷ r .window .len ∷ r .keys .count ∷ r .reads .count ∷ r .bars .bars)
     ++ (gather (λ i. slotNumbers (slotAt (r .window) i)) 0 (r .window .len)
-    ++ gather (λ i. getD (r .keys .keys) i 0 ∷ getD (r .keys .slots) i 0 ∷ []) 0 (r .keys .count)))
+    ++ (gather (λ i. getD (r .keys .keys) i 0 ∷ getD (r .keys .slots) i 0 ∷ []) 0 (r .keys .count)
+    ++ openReads r)))
 
 unfoldable pub rightTurn : Replica → Outcome → Turn → Bool
 rightTurn r o t =
@@ -109,9 +119,9 @@ unfoldable pub rightRuns : List Run → Bool
 rightRuns [] = true
 rightRuns (k ∷ ks) = rightRun (newReplica (k .id) (k .group) 0 0 .replica) (k .turns) && rightRuns ks
 
--- what is seen of a replica with no reads and with one
+-- what is seen of a replica with no open read
 abbrev pub plain : ℕ → ℕ → ℕ → ℕ → List ℕ
-plain len seen leader status = len ∷ seen ∷ leader ∷ status ∷ 0 ∷ 0 ∷ 0 ∷ []
+plain len seen leader status = len ∷ seen ∷ leader ∷ status ∷ []
 
 abbrev pub numbers : ℕ → ℕ → ℕ → ℕ → ℕ → ℕ → List ℕ
 numbers kind member slot trigger endprep ballot = kind ∷ member ∷ slot ∷ trigger ∷ endprep ∷ ballot ∷ replicate 12 0
@@ -128,8 +138,41 @@ ignored peer trigger ballot answer len seen leader = still (callPrepare peer tri
 abbrev pub reply : ℕ → Reply
 reply ballot = record { slot = 0; trigger = 0; endprep = 0; ballot = ballot; voted = false; vote = noVote; bar = 0 }
 
-abbrev pub oneKey : Tally
-oneKey = record { count = 1; bests = record { best = Value (record { slot = 7; value = 9 }) } ∷ replicate 7 noBest }
+-- what a reply tells of one key or of two
+abbrev pub ofOne : Best → Tally
+ofOne a = record { count = 1; bests = record { best = a } ∷ replicate 7 noBest }
+
+abbrev pub ofTwo : Best → Best → Tally
+ofTwo a b = record { count = 2; bests = record { best = a } ∷ record { best = b } ∷ replicate 6 noBest }
+
+abbrev pub withValue : ℕ → ℕ → Best
+withValue slot value = Value (record { slot = slot; value = value })
+
+-- read 5, of key 4: the members acknowledged, and the key's tag, slot and value; the same for key 6 behind it
+abbrev pub held : ℕ → ℕ → ℕ → ℕ → List ℕ
+held acks tag slot value = 5 ∷ acks ∷ 4 ∷ tag ∷ slot ∷ value ∷ []
+
+abbrev pub second : ℕ → ℕ → ℕ → List ℕ
+second tag slot value = 6 ∷ tag ∷ slot ∷ value ∷ []
+
+-- a call of a replica that is fresh but for its open reads: its answer, and the reads and actions after it
+abbrev pub fresh : Call → ℕ → List ℕ → List ℕ → Turn
+fresh c answer reads acts = turn c answer (0 ∷ 0 ∷ 255 ∷ 0 ∷ reads) acts
+
+-- read 5 is opened, for key 4 or for keys 4 and 6
+abbrev pub asked : Turn
+asked = fresh (callOpenRead 5 1 (4 ∷ replicate 7 0)) 0 (held 0 0 0 0) []
+
+abbrev pub askedTwo : Turn
+askedTwo = fresh (callOpenRead 5 2 (4 ∷ 6 ∷ replicate 6 0)) 0 (held 0 0 0 0 ++ second 0 0 0) []
+
+-- a member's reply to it
+abbrev pub told : ℕ → Tally → ℕ → List ℕ → List ℕ → Turn
+told peer reply answer reads acts = fresh (callReadReply peer 5 false reply) answer reads acts
+
+-- what it answers for the key at a place: a tag, and the value or the leader
+abbrev pub answers : ℕ → ℕ → ℕ → List ℕ
+answers place tag value = numbers 13 0 5 place tag value
 
 -- group 3, fresh, id 2, start 0
 unfoldable pub marked : List Run
@@ -163,11 +206,37 @@ marked =
     ∷ still (callAcceptReply 2 0 257) 0 (plain 1 257 0 2)
     ∷ turn (callAcceptReply 3 0 257) 0 (plain 1 257 0 3) (numbers 3 0 0 0 0 0)
     ∷ [])
-    -- "Slot and value into an empty tally holds the slot alone."
-    ∷ run 2 3
-    (turn (callOpenRead 5 1 (4 ∷ replicate 7 0)) 0 (plain 0 0 255 0) []
-    ∷ turn (callReadReply 0 5 false oneKey) 0 (0 ∷ 0 ∷ 255 ∷ 0 ∷ 1 ∷ 7 ∷ 0 ∷ []) []
+    -- "Slot and value into an empty tally holds", since 02, the value; with nothing else told it is the answer: before nothing, after it, and alone
+    ∷ run 2 3 (asked ∷ told 0 (ofOne (withValue 7 9)) 0 (held 1 2 7 9) [] ∷ told 1 (ofOne Nothing) 0 [] (answers 0 2 9) ∷ [])
+    ∷ run 2 3 (asked ∷ told 0 (ofOne Nothing) 0 (held 1 0 0 0) [] ∷ told 1 (ofOne (withValue 7 9)) 0 [] (answers 0 2 9) ∷ [])
+    ∷ run 0 1 (asked ∷ told 0 (ofOne (withValue 7 9)) 0 [] (answers 0 2 9) ∷ [])
+    -- a value, and its slot alone: in both orders the value
+    ∷ run 2 5
+    (asked
+    ∷ told 0 (ofOne (withValue 7 9)) 0 (held 1 2 7 9) []
+    ∷ told 1 (ofOne (SlotAlone 7)) 0 (held 3 2 7 9) []
+    ∷ told 3 (ofOne Nothing) 0 [] (answers 0 2 9)
     ∷ [])
+    ∷ run 2 5
+    (asked
+    ∷ told 0 (ofOne (SlotAlone 7)) 0 (held 1 1 7 0) []
+    ∷ told 1 (ofOne (withValue 7 9)) 0 (held 3 2 7 9) []
+    ∷ told 3 (ofOne Nothing) 0 [] (answers 0 2 9)
+    ∷ [])
+    -- a smaller slot alone leaves the value; a larger one does not, and the answer is retry
+    ∷ run 2 3 (asked ∷ told 0 (ofOne (withValue 7 9)) 0 (held 1 2 7 9) [] ∷ told 1 (ofOne (SlotAlone 6)) 0 [] (answers 0 2 9) ∷ [])
+    ∷ run 2 3 (asked ∷ told 0 (ofOne (withValue 7 9)) 0 (held 1 2 7 9) [] ∷ told 1 (ofOne (SlotAlone 8)) 0 [] (answers 0 1 255) ∷ [])
+    -- two values at one slot, the first into an empty tally: 12, the key before it merged, the sender not acknowledged, the read open; then the same
+    -- sender tells the value that is held, and is counted
+    ∷ run 2 3
+    (askedTwo
+    ∷ told 0 (ofTwo (SlotAlone 3) (withValue 7 9)) 0 (held 1 1 3 0 ++ second 2 7 9) []
+    ∷ told 1 (ofTwo (withValue 5 1) (withValue 7 8)) 12 (held 1 2 5 1 ++ second 2 7 9) []
+    ∷ told 1 (ofTwo Nothing (withValue 7 9)) 0 [] (answers 0 2 1 ++ answers 1 2 9)
+    ∷ [])
+    -- the leader's reply replaces a value, too
+    ∷ run 2 3
+    (asked ∷ told 0 (ofOne (withValue 7 9)) 0 (held 1 2 7 9) [] ∷ fresh (callReadReply 1 5 true (ofOne (SlotAlone 7))) 0 [] (answers 0 1 255) ∷ [])
     ∷ []
 
 pub marked-hold : T (rightRuns marked)

@@ -1,19 +1,20 @@
 -- What a merge and a reply promise of each key, of the answer and of the read, beyond their definitions.
-use mathlib.Core.Path.{_≡_, refl, ap}
+use mathlib.Core.Path.{_≡_, refl, sym, ap, _∙_}
 use mathlib.Core.Bool.{Bool, true, false, not, _&&_}
 use mathlib.Core.List.{[], _∷_, List·Memᴰ·head, List·Memᴰ·tail}
 use mathlib.Core.Logic.{⊎-elim}
-use Prim.Native.Nat.{ℕ, suc, _≤_, _<_}
+use Prim.Native.Nat.{ℕ, suc, _+_, _≤_, _<_}
 use native.Mathlib.Nat.{le-refl}
 use native.Mathlib.Omega.{arith}
 use lib.ListN.{length, List·getD-eq-default}
 use lib.Dec.{ltb, leb, eqb}
 use borrow.Author.Tests.{ltb-true, ltb-false, eqb-true, eqb-false, not-true, not-false}
-use Rattle.base.specs.Pick.{coincide, larger, pick-both, pick-cases, decide, clash, larger-left, tests}
+use Rattle.base.specs.Pick.{coincide, larger, pick-both, pick-cases, decide, clash, larger-left, larger-right, tests}
 use Rattle.base.specs.Among.{_∈_}
 use Rattle.base.specs.Over.{length-over, over-at, over-after}
 use Rattle.base.specs.Scan.{scan-high, scan-passed, scan-stopped}
 use Rattle.members.specs.Sets.{has, insert, countIn}
+use Rattle.tally.specs.declared.Held.{Held}
 use Rattle.tally.specs.declared.Best.{Best}
 use Rattle.tally.specs.declared.Best.the-variants.{Nothing, Slot, Value}
 use Rattle.tally.specs.declared.KeyBest.{KeyBest}
@@ -28,11 +29,11 @@ use Rattle.tally.specs.Open.{withTally, withAck, stays, replaced, replyT
 
 -- ONE KEY
 
--- how much is known of a key: 0 for nothing, else one more than its slot
+-- how much is known of a key, in one order: nothing, then by slot, and at one slot a value above none
 abbrev pub level : Best → ℕ
 level Nothing = 0
-level (Slot s) = suc s
-level (Value h) = suc (h .slot)
+level (Slot s) = suc (s + s)
+level (Value h) = suc (suc (h .slot + h .slot))
 
 up : (a b : ℕ) → a ≤ b → b ≡ larger a b
 up a b h = pick-cases (λ (x : ℕ). b ≡ x) (ltb a b) (λ t. refl) (λ t. omega (arith, tests))
@@ -40,32 +41,48 @@ up a b h = pick-cases (λ (x : ℕ). b ≡ x) (ltb a b) (λ t. refl) (λ t. omeg
 down : (a b : ℕ) → b ≤ a → a ≡ larger a b
 down a b h = pick-cases (λ (x : ℕ). a ≡ x) (ltb a b) (λ t. omega (arith, tests)) (λ t. refl)
 
--- a merge leaves the larger of the two
+-- a merge leaves the larger of the two: a value goes only where a larger slot is told
 pub merged-level : (held reply : Best) → level (mergedBest held (mergeKey held reply)) ≡ larger (level held) (level reply)
 merged-level held Nothing = down (level held) 0 (omega arith)
-merged-level Nothing (Slot s) = up 0 (suc s) (omega arith)
+merged-level Nothing (Slot s) = up 0 (level (Slot s)) (omega arith)
 merged-level (Slot t) (Slot s) =
-    pick-cases (λ (m : MergedKey). level (mergedBest (Slot t) m) ≡ larger (suc t) (suc s)) (ltb t s)
-    (λ e. up (suc t) (suc s) (omega (arith, tests))) (λ e. down (suc t) (suc s) (omega (arith, tests)))
+    let held : ℕ = level (Slot t) in
+    let told : ℕ = level (Slot s) in
+    pick-cases (λ (m : MergedKey). level (mergedBest (Slot t) m) ≡ larger held told) (ltb t s)
+    (λ e. up held told (omega (arith, tests))) (λ e. down held told (omega (arith, tests)))
 merged-level (Value k) (Slot s) =
-    pick-cases (λ (m : MergedKey). level (mergedBest (Value k) m) ≡ larger (suc (k .slot)) (suc s)) (ltb (k .slot) s)
-    (λ e. up (suc (k .slot)) (suc s) (omega (arith, tests))) (λ e. down (suc (k .slot)) (suc s) (omega (arith, tests)))
-merged-level Nothing (Value h) = up 0 (suc (h .slot)) (omega arith)
+    let held : ℕ = level (Value k) in
+    let told : ℕ = level (Slot s) in
+    pick-cases (λ (m : MergedKey). level (mergedBest (Value k) m) ≡ larger held told) (ltb (k .slot) s)
+    (λ e. up held told (omega (arith, tests))) (λ e. down held told (omega (arith, tests)))
+merged-level Nothing (Value h) = up 0 (level (Value h)) (omega arith)
 merged-level (Slot t) (Value h) =
-    pick-cases (λ (m : MergedKey). level (mergedBest (Slot t) m) ≡ larger (suc t) (suc (h .slot))) (leb t (h .slot))
-    (λ e. up (suc t) (suc (h .slot)) (omega (arith, tests))) (λ e. down (suc t) (suc (h .slot)) (omega (arith, tests)))
+    let held : ℕ = level (Slot t) in
+    let told : ℕ = level (Value h) in
+    pick-cases (λ (m : MergedKey). level (mergedBest (Slot t) m) ≡ larger held told) (leb t (h .slot))
+    (λ e. up held told (omega (arith, tests))) (λ e. down held told (omega (arith, tests)))
 merged-level (Value k) (Value h) =
-    let held : ℕ = suc (k .slot) in
-    let told : ℕ = suc (h .slot) in
+    let held : ℕ = level (Value k) in
+    let told : ℕ = level (Value h) in
     pick-cases (λ (m : MergedKey). level (mergedBest (Value k) m) ≡ larger held told) (ltb (k .slot) (h .slot))
     (λ e. up held told (omega (arith, tests)))
     (λ e.
     let kept : held ≡ larger held told = down held told (omega (arith, tests)) in
     pick-both (λ (m : MergedKey). level (mergedBest (Value k) m) ≡ larger held told) (eqb (k .slot) (h .slot) && not (eqb (k .value) (h .value))) kept kept)
 
--- so nothing known is lost, and no slot falls
+-- so nothing known is lost, and neither falls a slot nor goes a value but to a larger slot
 pub merged-rises : (held reply : Best) → level held ≤ level (mergedBest held (mergeKey held reply))
 merged-rises held reply = rw (merged-level held reply) (larger-left (level held) (level reply))
+
+-- 02: what meets nothing held is kept as it came, its value too; so it is no conflict
+pub first-kept : (b : Best) → mergeKey Nothing b ≡ Into b
+first-kept Nothing = refl
+first-kept (Slot s) = refl
+first-kept (Value h) = refl
+
+-- where a slot alone is known, no value was told for it or for a larger one: only then is the answer retry
+pub retry-told : (s : ℕ) (h : Held) → level (Value h) ≤ level (Slot s) → h .slot < s
+retry-told s h q = omega arith
 
 -- what a read answers has the tag of the best answer known
 pub answer-tag : (leader : ℕ) (b : Best) → answerOf leader b .tag ≡ bestNumbers b .0
@@ -144,7 +161,7 @@ module _ (held reply : Tally) where
       (λ (h : ltb i n ≡ false). rw (kept-at n i (ltb-false _ _ h)) (le-refl _))
       (decide (ltb i n))
 
-  -- whatever the answer, nothing known of a key is lost, and no slot falls
+  -- whatever the answer, nothing known of a key is lost
   pub merge-rises : (i : ℕ) → level (bestAt held i) ≤ level (bestAt (merge held reply .tally) i)
   merge-rises i =
       merge-cases (λ (m : Merged). level (bestAt held i) ≤ level (bestAt (m .tally) i)) (le-refl _) (le-refl _) (le-refl _)
@@ -184,6 +201,13 @@ module _ (held reply : Tally) where
         each = λ i q. passed-into i (omega arith);
       })
 
+  -- answer 0: of each key as much is known as was told, or more
+  pub merge-takes : merge held reply .answer ≡ 0 → (i : ℕ) → i < held .count → i < length (held .bests)
+      → level (bestAt reply i) ≤ level (bestAt (merge held reply .tally) i)
+  merge-takes e i h q =
+      rw (← ap (λ (m : MergedKey). level (mergedBest (bestAt held i) m)) (merge-joined e .each i h q), merged-level (bestAt held i) (bestAt reply i))
+      (larger-right (level (bestAt held i)) (level (bestAt reply i)))
+
   pub merge-stopped : merge held reply .answer ≡ mergedAnswer Conflict → Stopped (merge held reply .tally)
   merge-stopped =
       merge-cases (λ (m : Merged). m .answer ≡ 12 → Stopped (m .tally)) (λ z. absurd (omega arith)) (λ z. absurd (omega arith)) (λ z. absurd (omega arith))
@@ -202,6 +226,19 @@ module _ (held reply : Tally) where
   merge-refused =
       merge-cases (λ (m : Merged). (m .answer ≡ 0 → ⊥) → (m .answer ≡ 12 → ⊥) → m .tally ≡ held) (λ z w. refl) (λ z w. refl) (λ z w. refl)
       (λ e f h z w. absurd (w refl)) (λ e f h z w. absurd (z refl))
+
+  -- where nothing is known yet a reply is no conflict, and what it tells of each key is known after it
+  module _ (blank : (i : ℕ) → bestAt held i ≡ Nothing) where
+    taken-as-told : (i : ℕ) → mergeKey (bestAt held i) (bestAt reply i) ≡ Into (bestAt reply i)
+    taken-as-told i = rw (blank i) (first-kept (bestAt reply i))
+
+    pub first-no-conflict : merge held reply .answer ≡ mergedAnswer Conflict → ⊥
+    first-no-conflict e = let s = merge-stopped e in clash refl (ap (λ (m : MergedKey). conflicts m) (sym (s .here) ∙ taken-as-told (s .at)))
+
+    pub first-held : merge held reply .answer ≡ 0 → (i : ℕ) → i < held .count → i < length (held .bests)
+        → bestAt (merge held reply .tally) i ≡ bestAt reply i
+    first-held e i h q =
+        ap (λ (m : MergedKey). mergedBest Nothing m) (sym (merge-joined e .each i h q) ∙ taken-as-told i)
 
   -- any two outcomes that `merge_into`'s promise allows coincide
   pub merged-unique : {answer answer′ : ℕ} {after after′ : Tally} → (answer ≡ merge held reply .answer) × (after ≡ merge held reply .tally)

@@ -22,10 +22,10 @@ bestNumbers Nothing = (0, 0, 0)
 bestNumbers (Slot s) = (1, s, 0)
 bestNumbers (Value h) = (2, h .slot, h .value)
 
--- "slot and value: with nothing held, the slot alone is stored, the value dropped; over a slot alone, stored if its slot is not smaller;
--- over a slot with value, stored if larger, and at an equal slot another value is a conflict."
+-- "slot and value": 02, of "a value that meets an empty tally": "From now on it is kept"; 01: "over a slot alone, stored if its slot is not
+-- smaller; over a slot with value, stored if larger, and at an equal slot another value is a conflict."
 abbrev pub mergeValue : Best → Held → MergedKey
-mergeValue Nothing h = Into (Slot (h .slot))
+mergeValue Nothing h = Into (Value h)
 mergeValue (Slot t) h = pick (leb t (h .slot)) (Into (Value h)) (Into (Slot t))
 mergeValue (Value k) h =
     pick (ltb (k .slot) (h .slot)) (Into (Value h))

@@ -14,7 +14,7 @@ fn merge_value(held: Best, reply: Held) -> MergedKey
     ensures { λ r. ⌜ r ≡ merging.mergeValue held reply ⌝ }
 {
     match held {
-        Best::Nothing => MergedKey::Into(Best::Slot(reply.slot)),
+        Best::Nothing => MergedKey::Into(Best::Value(reply)),
         Best::Slot(s) => {
             if s <= reply.slot {
                 return MergedKey::Into(Best::Value(reply));

@@ -1,19 +1,20 @@
 //! Traces made by hand.
 
 use super::refusals::refusals;
-use crate::batch::Batch;
-use crate::call::{Call, Entry};
+use crate::batch::{Batch, Keys};
+use crate::call::{Call, Entry, Known, KnownList};
 
 /// A name, and the calls.
 type Example = (&'static str, fn() -> Vec<Call>);
 
-const EXAMPLES: [Example; 6] = [
+const EXAMPLES: [Example; 7] = [
     ("worked", worked),
     ("keys", full_key_table),
     ("refusals", refused_and_done),
     ("late-0", late_at_0),
     ("late-1", late_at_1),
     ("late-2", late_at_2),
+    ("first-value", first_values),
 ];
 
 pub fn example(name: &str) -> Option<Vec<u8>> {
@@ -115,6 +116,51 @@ fn late_at_2() -> Vec<Call> {
         done(Entry::AcceptData, 1, 160),
         Call::AcceptReply { peer: 0, slot: 1, ballot: 771 },
     ]
+}
+
+/// 02, Wish 2: a value meets nothing held, and what follows from it. Reads of one key: the value
+/// alone; then with another at its slot; with nothing, before and after it; with its slot alone, in
+/// both orders; with a smaller and a larger slot. Reads of two: another value for the second key,
+/// and after that the value held; the leader's reply, which replaces.
+fn first_values() -> Vec<Call> {
+    let (seven, slot_7) = (Known::Value(7, 9), Known::Slot(7));
+    let ones: [&[(u8, Known)]; 8] = [
+        &[(0, seven), (1, Known::Value(7, 8)), (1, seven)],
+        &[(0, seven), (1, Known::Nothing)],
+        &[(0, Known::Nothing), (1, seven)],
+        &[(0, seven), (1, slot_7)],
+        &[(0, slot_7), (1, seven)],
+        &[(0, seven), (1, Known::Slot(6))],
+        &[(0, seven), (1, Known::Slot(8))],
+        &[(0, seven), (0, Known::Slot(8)), (1, Known::Value(6, 8))],
+    ];
+    let mut calls = vec![new_member(0, 1), asked(&[4]), told(0, &[seven], false)];
+    for replies in ones {
+        calls.extend([new_member(2, 3), asked(&[4])]);
+        calls.extend(replies.iter().map(|&(peer, known)| told(peer, &[known], false)));
+    }
+    calls.extend([
+        new_member(2, 3),
+        asked(&[4, 6]),
+        told(0, &[Known::Slot(3), seven], false),
+        told(1, &[Known::Value(5, 1), Known::Value(7, 8)], false),
+        told(1, &[Known::Nothing, seven], false),
+        new_member(2, 3),
+        asked(&[4, 6]),
+        told(0, &[seven, Known::Nothing], false),
+        told(1, &[Known::Nothing, slot_7], true),
+    ]);
+    calls
+}
+
+/// Read 5 is opened for these keys.
+fn asked(keys: &[u64]) -> Call {
+    Call::OpenRead { read: 5, keys: Keys::from_slice(keys) }
+}
+
+/// Read 5 is replied to.
+fn told(peer: u8, known: &[Known], from_leader: bool) -> Call {
+    Call::ReadReply { peer, read: 5, known: KnownList::from_slice(known), from_leader }
 }
 
 fn urgent_member(id: u8) -> Call {
