@@ -17,6 +17,26 @@ pub enum Known {
     Value(u64, u64),
 }
 
+impl Known {
+    /// By 01's tag, slot and value.
+    pub(crate) fn of([tag, slot, value]: &[u64; 3]) -> Known {
+        match tag {
+            0 => Known::Nothing,
+            1 => Known::Slot(*slot),
+            _ => Known::Value(*slot, *value),
+        }
+    }
+
+    /// As the source has it.
+    pub(crate) fn knowledge(&self) -> Knowledge {
+        match *self {
+            Known::Nothing => None,
+            Known::Slot(slot) => Some((slot as usize, None)),
+            Known::Value(slot, value) => Some((slot as usize, Some(value.to_string()))),
+        }
+    }
+}
+
 /// The list of a read reply.
 #[derive(Clone, Copy, PartialEq, Eq, Default)]
 pub struct KnownList {
@@ -241,7 +261,7 @@ impl Call {
                 (peer, PeerMsg::CommitNotice { ballot, commit_bar: bar as usize })
             }
             Call::ReadReply { peer, read, known, from_leader } => {
-                let replies = known.as_slice().iter().map(knowledge).collect();
+                let replies = known.as_slice().iter().map(Known::knowledge).collect();
                 let rq_id = Replica::read_name(read);
                 (peer, PeerMsg::ReadQueryReply { rq_id, replies, from_leader })
             }
@@ -279,11 +299,7 @@ fn with_batch(record: Record, batch: Batch) -> Record {
 fn known_of(record: &Record) -> KnownList {
     let mut known = KnownList { count: record.count, ..KnownList::default() };
     for (place, entry) in record.entries[..usize::from(record.count)].iter().enumerate() {
-        known.list[place] = match entry[0] {
-            0 => Known::Nothing,
-            1 => Known::Slot(entry[1]),
-            _ => Known::Value(entry[1], entry[2]),
-        };
+        known.list[place] = Known::of(entry);
     }
     known
 }
@@ -298,12 +314,4 @@ fn with_known(record: Record, known: &KnownList) -> Record {
         };
     }
     filled
-}
-
-fn knowledge(known: &Known) -> Knowledge {
-    match *known {
-        Known::Nothing => None,
-        Known::Slot(slot) => Some((slot as usize, None)),
-        Known::Value(slot, value) => Some((slot as usize, Some(value.to_string()))),
-    }
 }

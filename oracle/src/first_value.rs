@@ -162,21 +162,14 @@ fn take_reads(session: &mut Session, told: &str) -> bool {
 fn take_read(replica: &mut Replica, line: &str) {
     let numbers: Vec<u64> = line.split(' ').filter_map(|word| word.parse().ok()).collect();
     let [read, acks, _, entries @ ..] = numbers.as_slice() else { return };
-    let entries = entries.chunks_exact(4);
-    let keys: Vec<u64> = entries.clone().map(|entry| entry[0]).collect();
+    let (entries, _) = entries.as_chunks();
+    let keys: Vec<u64> = entries.iter().map(|&[key, ..]| key).collect();
     replica.open_read(*read, &keys);
     let members = (0..replica.population).filter(|member| acks >> member & 1 == 1).collect();
     if let Some(open) = replica.quorum_reads.get_mut(&Replica::read_name(*read)) {
         open.rq_acks = Bitmap::from((replica.population, members));
-        open.max_replies = entries.map(|entry| knowledge(entry[1], entry[2], entry[3])).collect();
-    }
-}
-
-fn knowledge(tag: u64, slot: u64, value: u64) -> Knowledge {
-    match tag {
-        0 => None,
-        1 => Some((slot as usize, None)),
-        _ => Some((slot as usize, Some(value.to_string()))),
+        let known = |&[_, tag, slot, value]: &[u64; 4]| Known::of(&[tag, slot, value]).knowledge();
+        open.max_replies = entries.iter().map(known).collect();
     }
 }
 
