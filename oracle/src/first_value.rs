@@ -162,14 +162,14 @@ fn take_reads(session: &mut Session, told: &str) -> bool {
 fn take_read(replica: &mut Replica, line: &str) {
     let numbers: Vec<u64> = line.split(' ').filter_map(|word| word.parse().ok()).collect();
     let [read, acks, _, entries @ ..] = numbers.as_slice() else { return };
-    let (entries, _) = entries.as_chunks();
+    let (entries, _) = entries.as_chunks::<4>();
     let keys: Vec<u64> = entries.iter().map(|&[key, ..]| key).collect();
     replica.open_read(*read, &keys);
     let members = (0..replica.population).filter(|member| acks >> member & 1 == 1).collect();
     if let Some(open) = replica.quorum_reads.get_mut(&Replica::read_name(*read)) {
         open.rq_acks = Bitmap::from((replica.population, members));
-        let known = |&[_, tag, slot, value]: &[u64; 4]| Known::of(&[tag, slot, value]).knowledge();
-        open.max_replies = entries.iter().map(known).collect();
+        let known = entries.iter().map(|&[_, tag, slot, value]| Known::of(&[tag, slot, value]));
+        open.max_replies = known.map(|known| known.knowledge()).collect();
     }
 }
 
