@@ -27,7 +27,7 @@ const USAGE: &str = "usage:
                    the same of a program that keeps the first value, with --old-rule: whether it
                    differs exactly at the records where a value meets nothing held
   oracle without-first-values
-                   with --old-rule: the trace without those records
+                   with --old-rule: the trace without such replies
   oracle merges-of a trace of the merges of each read that the trace opened, one read after another
   oracle merges    a trace of that form; for each read opened and each reply, the answer and what
                    the Rust knows of the read after it

@@ -6,7 +6,7 @@ use mathlib.Core.Logic.{⊎-elim}
 use Prim.Native.Nat.{ℕ, suc, _+_, _≤_, _<_}
 use native.Mathlib.Nat.{le-refl}
 use native.Mathlib.Omega.{arith}
-use lib.ListN.{length, List·getD-eq-default}
+use lib.ListN.{length, getD-replicate, List·getD-eq-default}
 use lib.Dec.{ltb, leb, eqb}
 use borrow.Author.Tests.{ltb-true, ltb-false, eqb-true, eqb-false, not-true, not-false}
 use Rattle.base.specs.Pick.{coincide, larger, pick-both, pick-cases, decide, clash, larger-left, larger-right, tests}
@@ -25,7 +25,7 @@ use Rattle.tally.specs.declared.Merged.{Merged}
 use Rattle.tally.specs.declared.Read.{Read}
 use Rattle.tally.specs.declared.Replied.{Replied}
 use Rattle.tally.specs.Merge.{bestNumbers, answerOf, mergeKey, mergedAnswer, conflicts, mergedBest, noBest, bestAt, agree, conflictAt, mergeAt, mergeUpTo, merge}
-use Rattle.tally.specs.Open.{withTally, withAck, stays, replaced, replyTo}
+use Rattle.tally.specs.Open.{nothingKnown, withTally, withAck, stays, replaced, replyTo}
 
 -- ONE KEY
 
@@ -228,22 +228,26 @@ module _ (held reply : Tally) where
       (λ e f h z w. absurd (w refl)) (λ e f h z w. absurd (z refl))
 
   -- where nothing is known yet a reply is no conflict, and what it tells of each key is known after it
-  module _ (blank : (i : ℕ) → bestAt held i ≡ Nothing) where
-    taken-as-told : (i : ℕ) → mergeKey (bestAt held i) (bestAt reply i) ≡ Into (bestAt reply i)
-    taken-as-told i = rw (blank i) (first-kept (bestAt reply i))
+  module _ (blank : (i : ℕ) → i < held .count → bestAt held i ≡ Nothing) where
+    taken-as-told : (i : ℕ) → i < held .count → mergeKey (bestAt held i) (bestAt reply i) ≡ Into (bestAt reply i)
+    taken-as-told i h = rw (blank i h) (first-kept (bestAt reply i))
 
     pub first-no-conflict : merge held reply .answer ≡ mergedAnswer Conflict → ⊥
-    first-no-conflict e = let s = merge-stopped e in clash refl (ap (λ (m : MergedKey). conflicts m) (sym (s .here) ∙ taken-as-told (s .at)))
+    first-no-conflict e =
+        let s = merge-stopped e in clash refl (ap (λ (m : MergedKey). conflicts m) (sym (s .here) ∙ taken-as-told (s .at) (s .below)))
 
     pub first-held : merge held reply .answer ≡ 0 → (i : ℕ) → i < held .count → i < length (held .bests)
         → bestAt (merge held reply .tally) i ≡ bestAt reply i
-    first-held e i h q =
-        ap (λ (m : MergedKey). mergedBest Nothing m) (sym (merge-joined e .each i h q) ∙ taken-as-told i)
+    first-held e i h q = ap (λ (m : MergedKey). mergedBest Nothing m) (sym (merge-joined e .each i h q) ∙ taken-as-told i h)
 
   -- any two outcomes that `merge_into`'s promise allows coincide
   pub merged-unique : {answer answer′ : ℕ} {after after′ : Tally} → (answer ≡ merge held reply .answer) × (after ≡ merge held reply .tally)
       → (answer′ ≡ merge held reply .answer) × (after′ ≡ merge held reply .tally) → (answer ≡ answer′) × (after ≡ after′)
   merged-unique s t = (coincide (s .0) (t .0), coincide (s .1) (t .1))
+
+-- so it is for the first reply to a read: of a new one nothing is known
+pub new-blank : (count i : ℕ) → count ≤ 8 → i < count → bestAt (nothingKnown count) i ≡ Nothing
+new-blank count i few h = ap (λ (k : KeyBest). k .best) (getD-replicate 8 i noBest noBest (omega arith))
 
 -- A READ
 
