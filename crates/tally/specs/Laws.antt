@@ -9,7 +9,7 @@ use native.Mathlib.Omega.{arith}
 use lib.ListN.{length, getD-replicate, List·getD-eq-default}
 use lib.Dec.{ltb, leb, eqb}
 use borrow.Author.Tests.{ltb-true, ltb-false, eqb-true, eqb-false, not-true, not-false}
-use Rattle.base.specs.Pick.{coincide, larger, pick-both, pick-cases, decide, clash, larger-left, larger-right, tests}
+use Rattle.base.specs.Pick.{coincide, pick, larger, pick-both, pick-cases, decide, clash, larger-left, larger-right, tests}
 use Rattle.base.specs.Among.{_∈_}
 use Rattle.base.specs.Over.{length-over, over-at, over-after}
 use Rattle.base.specs.Scan.{scan-high, scan-passed, scan-stopped}
@@ -41,34 +41,29 @@ up a b h = pick-cases (λ (x : ℕ). b ≡ x) (ltb a b) (λ t. refl) (λ t. omeg
 down : (a b : ℕ) → b ≤ a → a ≡ larger a b
 down a b h = pick-cases (λ (x : ℕ). a ≡ x) (ltb a b) (λ t. omega (arith, tests)) (λ t. refl)
 
+-- what is told takes the place of what is held where it is not less; else what is held stays, and is not less: the larger of the two
+taken-or-kept : (held told : Best) (taken : Bool) (else : MergedKey) → mergedBest held else ≡ held
+    → (taken ≡ true → level held ≤ level told) → (taken ≡ false → level told ≤ level held)
+    → level (mergedBest held (pick taken (Into told) else)) ≡ larger (level held) (level told)
+taken-or-kept held told taken else stays more less =
+    pick-cases (λ (m : MergedKey). level (mergedBest held m) ≡ larger (level held) (level told)) taken (λ e. up (level held) (level told) (more e))
+    (λ e. rw stays (down (level held) (level told) (less e)))
+
 -- a merge leaves the larger of the two: a value goes only where a larger slot is told
 pub merged-level : (held reply : Best) → level (mergedBest held (mergeKey held reply)) ≡ larger (level held) (level reply)
 merged-level held Nothing = down (level held) 0 (omega arith)
 merged-level Nothing (Slot s) = up 0 (level (Slot s)) (omega arith)
 merged-level (Slot t) (Slot s) =
-    let held : ℕ = level (Slot t) in
-    let told : ℕ = level (Slot s) in
-    pick-cases (λ (m : MergedKey). level (mergedBest (Slot t) m) ≡ larger held told) (ltb t s)
-    (λ e. up held told (omega (arith, tests))) (λ e. down held told (omega (arith, tests)))
+    taken-or-kept (Slot t) (Slot s) (ltb t s) (Into (Slot t)) refl (λ e. omega (arith, tests)) (λ e. omega (arith, tests))
 merged-level (Value k) (Slot s) =
-    let held : ℕ = level (Value k) in
-    let told : ℕ = level (Slot s) in
-    pick-cases (λ (m : MergedKey). level (mergedBest (Value k) m) ≡ larger held told) (ltb (k .slot) s)
-    (λ e. up held told (omega (arith, tests))) (λ e. down held told (omega (arith, tests)))
+    taken-or-kept (Value k) (Slot s) (ltb (k .slot) s) (Into (Value k)) refl (λ e. omega (arith, tests)) (λ e. omega (arith, tests))
 merged-level Nothing (Value h) = up 0 (level (Value h)) (omega arith)
 merged-level (Slot t) (Value h) =
-    let held : ℕ = level (Slot t) in
-    let told : ℕ = level (Value h) in
-    pick-cases (λ (m : MergedKey). level (mergedBest (Slot t) m) ≡ larger held told) (leb t (h .slot))
-    (λ e. up held told (omega (arith, tests))) (λ e. down held told (omega (arith, tests)))
+    taken-or-kept (Slot t) (Value h) (leb t (h .slot)) (Into (Slot t)) refl (λ e. omega (arith, tests)) (λ e. omega (arith, tests))
 merged-level (Value k) (Value h) =
-    let held : ℕ = level (Value k) in
-    let told : ℕ = level (Value h) in
-    pick-cases (λ (m : MergedKey). level (mergedBest (Value k) m) ≡ larger held told) (ltb (k .slot) (h .slot))
-    (λ e. up held told (omega (arith, tests)))
-    (λ e.
-    let kept : held ≡ larger held told = down held told (omega (arith, tests)) in
-    pick-both (λ (m : MergedKey). level (mergedBest (Value k) m) ≡ larger held told) (eqb (k .slot) (h .slot) && not (eqb (k .value) (h .value))) kept kept)
+    let other : Bool = eqb (k .slot) (h .slot) && not (eqb (k .value) (h .value)) in
+    taken-or-kept (Value k) (Value h) (ltb (k .slot) (h .slot)) (pick other Conflict (Into (Value k)))
+    (pick-both (λ (m : MergedKey). mergedBest (Value k) m ≡ Value k) other refl refl) (λ e. omega (arith, tests)) (λ e. omega (arith, tests))
 
 -- so nothing known is lost, and neither falls a slot nor goes a value but to a larger slot
 pub merged-rises : (held reply : Best) → level held ≤ level (mergedBest held (mergeKey held reply))
