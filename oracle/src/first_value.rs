@@ -7,8 +7,8 @@ use crate::agree::{Difference, in_words};
 use crate::call::{Call, Known};
 use crate::host::Replica;
 use crate::host::multipaxos::Knowledge;
-use crate::play::fill;
-use crate::record::{RECORD_BYTES, Record};
+use crate::play::each_record;
+use crate::record::Record;
 use crate::session::Session;
 use crate::tell::Text;
 use crate::utils::Bitmap;
@@ -43,9 +43,9 @@ fn meets_nothing_here(session: &Session, bytes: &[u8]) -> bool {
 }
 
 /// Writes the trace without the replies in which a value meets nothing held.
-pub fn without_first_values(mut trace: impl Read, mut output: impl Write) -> io::Result<()> {
+pub fn without_first_values(trace: impl Read, mut output: impl Write) -> io::Result<()> {
     let mut session = Session::default();
-    each_record(&mut trace, |bytes| {
+    each_record(trace, |bytes| {
         if !meets_nothing_here(&session, bytes) {
             session.feed(bytes);
             output.write_all(bytes)?;
@@ -80,13 +80,13 @@ pub const PAST_THE_END: &str = "the text goes on past the trace";
 /// differ exactly at the records where a value meets nothing held, in the answer, the actions and
 /// the reads. A second Rust, which takes nothing over, counts what is told otherwise later on.
 pub fn departs(
-    mut trace: impl Read,
+    trace: impl Read,
     mut theirs: impl BufRead,
 ) -> io::Result<Result<Departures, Wrong>> {
     let (mut following, mut apart) = (Session::default(), Session::default());
     let mut seen = Departures::default();
     let mut wrong = None;
-    each_record(&mut trace, |bytes| {
+    each_record(trace, |bytes| {
         seen.records += 1;
         let other = next_record(&mut theirs)?;
         let meets = meets_nothing_here(&following, bytes);
@@ -180,20 +180,6 @@ fn next_record(theirs: &mut impl BufRead) -> io::Result<String> {
         theirs.read_until(b'\n', &mut record)?;
         if theirs.fill_buf()?.first().is_none_or(u8::is_ascii_digit) {
             return Ok(String::from_utf8_lossy(&record).into_owned());
-        }
-    }
-}
-
-/// Steps through a trace, short last record and all, as long as each says so.
-fn each_record(
-    trace: &mut impl Read,
-    mut each: impl FnMut(&[u8]) -> io::Result<bool>,
-) -> io::Result<()> {
-    let mut bytes = [0; RECORD_BYTES];
-    loop {
-        let length = fill(trace, &mut bytes)?;
-        if length == 0 || !each(&bytes[..length])? {
-            return Ok(());
         }
     }
 }

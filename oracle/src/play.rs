@@ -14,22 +14,28 @@ pub struct Played<'a> {
     pub replica: Option<&'a Replica>,
 }
 
-pub fn play(
-    mut input: impl Read,
-    mut each: impl FnMut(Played) -> io::Result<()>,
-) -> io::Result<()> {
+pub fn play(input: impl Read, mut each: impl FnMut(Played) -> io::Result<()>) -> io::Result<()> {
     let mut session = Session::default();
-    let mut bytes = [0; RECORD_BYTES];
     let mut number = 0;
-    loop {
-        let length = fill(&mut input, &mut bytes)?;
-        if length == 0 {
-            return Ok(());
-        }
+    each_record(input, |bytes| {
         number += 1;
-        let bytes = &bytes[..length];
         let outcome = session.feed(bytes);
         each(Played { number, bytes, outcome: &outcome, replica: session.replica() })?;
+        Ok(true)
+    })
+}
+
+/// The records of a trace, for as long as `each` asks for the next one.
+pub(crate) fn each_record(
+    mut input: impl Read,
+    mut each: impl FnMut(&[u8]) -> io::Result<bool>,
+) -> io::Result<()> {
+    let mut bytes = [0; RECORD_BYTES];
+    loop {
+        let length = fill(&mut input, &mut bytes)?;
+        if length == 0 || !each(&bytes[..length])? {
+            return Ok(());
+        }
     }
 }
 

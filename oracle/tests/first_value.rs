@@ -80,11 +80,13 @@ mod departing {
     use std::fs;
     use std::path::Path;
 
-    use oracle::agree::{Agreement, agree};
     use oracle::first_value::*;
     use oracle::generate::example;
-    use oracle::play::play;
-    use oracle::tell::Text;
+
+    use super::common::told_text;
+
+    /// The records of `first-value` in which a value meets nothing held.
+    const FIRST: [u64; 10] = [3, 6, 11, 16, 19, 27, 31, 35, 40, 45];
 
     fn trace() -> Vec<u8> {
         example("first-value").expect("it is there")
@@ -93,16 +95,6 @@ mod departing {
     fn new_rules_text() -> String {
         let path = Path::new(env!("CARGO_MANIFEST_DIR")).join("samples/first-value.tell");
         fs::read_to_string(path).expect("the stored text")
-    }
-
-    fn old_rules_text(trace: &[u8]) -> String {
-        let mut text = Text::default();
-        play(trace, |played| {
-            text.told(played.number, played.outcome, played.replica);
-            Ok(())
-        })
-        .expect("memory is read");
-        String::from_utf8(text.bytes).expect("ASCII")
     }
 
     fn parting(text: &str) -> Result<Departures, Wrong> {
@@ -117,57 +109,75 @@ mod departing {
     #[test]
     fn the_new_rule_parts_where_a_value_meets_nothing_and_is_told_otherwise_later() {
         let seen = parting(&new_rules_text()).unwrap_or_else(|wrong| panic!("{}", wrong.report()));
-        assert_eq!(seen, Departures { records: 46, first_values: 10, later: 9 });
+        assert_eq!(seen, Departures { records: 46, first_values: FIRST.len() as u64, later: 9 });
     }
 
     #[test]
     fn the_old_rule_does_not_part() {
-        assert_eq!(wrong(&old_rules_text(&trace())), (NOT_TOLD, 3));
+        assert_eq!(wrong(&told_text(trace().as_slice())), (NOT_TOLD, FIRST[0]));
     }
 
-    /// Every number changed, in the whole text: it is found in its record.
+    /// Every digit of the text is changed. In a record in which no value meets nothing held it is
+    /// found there. In the others the answer, the actions and the reads may differ, and are held to
+    /// the new rule by the comparison with that; all else is found there, too.
     #[test]
     fn whatever_else_differs_is_found() {
         let text = new_rules_text();
-        let (mut number, mut at) = (0, 0);
-        for line in text.split_inclusive('\n') {
-            number += u64::from(line.as_bytes()[0].is_ascii_digit());
-            for place in
-                (at..at + line.len()).filter(|&place| text.as_bytes()[place].is_ascii_digit())
-            {
-                let mut other = text.clone().into_bytes();
-                other[place] = if other[place] == b'9' { b'8' } else { other[place] + 1 };
-                let other = String::from_utf8(other).expect("ASCII");
-                // Where the two part, the answer, the actions and the reads are the new rule's: the
-                // comparison by that rule has to see to them. The next record is told from there.
-                if wrong(&other) == ("", 0) {
-                    let first = line.as_bytes()[0];
-                    assert!(matches!(first, b'A' | b'R' | b'0'..=b'9'), "record {number}: {line}");
+        let mut number = 0;
+        for (at, line) in lines_with_their_places(&text) {
+            let letter = line.as_bytes()[0];
+            number += u64::from(letter.is_ascii_digit());
+            for place in at..at + line.len() {
+                let Some(other) = with_another_digit(&text, place) else { continue };
+                let found = wrong(&other);
+                if !FIRST.contains(&number) {
+                    assert_eq!(found, (TOLD_HERE, number), "{line}");
+                } else if matches!(letter, b'S' | b'P') {
+                    assert_eq!(found, (MORE_THAN_READS, number), "{line}");
                 }
             }
-            at += line.len();
         }
-        assert_eq!(wrong(&format!("{text}47 0 0 0 0 0 0\nZ\n")), (PAST_THE_END, 47));
-        assert_eq!(wrong(&text[..text.len() - 2]).1, 46);
-        let other = text.replacen("\n4 0 0 ", "\n4 1 0 ", 1);
-        assert_eq!(wrong(&other), (TOLD_HERE, 4));
-        let other = text.replacen("\n6 0 0 0 0 0 0\nS 2 3 ", "\n6 0 0 0 0 0 0\nS 1 3 ", 1);
-        assert_eq!(wrong(&other), (MORE_THAN_READS, 6));
+        assert_eq!(number, 46);
+    }
+
+    fn lines_with_their_places(text: &str) -> impl Iterator<Item = (usize, &str)> {
+        let mut next = 0;
+        text.split_inclusive('\n').map(move |line| {
+            next += line.len();
+            (next - line.len(), line)
+        })
+    }
+
+    /// None where there is no digit.
+    fn with_another_digit(text: &str, place: usize) -> Option<String> {
+        let mut other = text.to_string().into_bytes();
+        other[place] = match other[place] {
+            b'9' => b'8',
+            digit @ b'0'..=b'8' => digit + 1,
+            _ => return None,
+        };
+        String::from_utf8(other).ok()
     }
 
     #[test]
-    fn without_those_records_nothing_differs() {
+    fn a_text_that_goes_on_or_stops_early_is_found() {
+        let text = new_rules_text();
+        assert_eq!(wrong(&format!("{text}47 0 0 0 0 0 0\nZ\n")), (PAST_THE_END, 47));
+        assert_eq!(wrong(&text[..text.len() - 2]).1, 46);
+    }
+
+    /// Where a reply is left out, another value comes to meet nothing, and is left out as well.
+    #[test]
+    fn every_reply_in_which_a_value_meets_nothing_is_left_out_and_no_other() {
         let mut without = Vec::new();
         without_first_values(trace().as_slice(), &mut without).expect("memory is written");
-        assert!(without.len() < trace().len());
-        let text = old_rules_text(&without);
-        let whole = agree(without.as_slice(), text.as_bytes()).expect("memory is read");
-        assert!(
-            matches!(whole, Agreement::Whole(records) if records == without.len() as u64 / 256)
-        );
-        // No value is left that meets nothing, so a program of either rule tells it so.
-        let seen = departs(without.as_slice(), text.as_bytes()).expect("memory is read");
-        let seen = seen.unwrap_or_else(|wrong| panic!("{}", wrong.report()));
-        assert_eq!((seen.first_values, seen.later), (0, 0));
+        let left_out = [&FIRST[..], &[7, 8, 41, 42]].concat();
+        let numbered = trace();
+        let kept = numbered.chunks(256).zip(1..).filter(|(_, number)| !left_out.contains(number));
+        assert!(without == kept.map(|(record, _)| record).collect::<Vec<_>>().concat());
+        let seen = departs(without.as_slice(), told_text(without.as_slice()).as_bytes());
+        let seen =
+            seen.expect("memory is read").unwrap_or_else(|wrong| panic!("{}", wrong.report()));
+        assert_eq!(seen, Departures { records: 32, first_values: 0, later: 0 });
     }
 }

@@ -1,8 +1,11 @@
 //! The stored samples: the oracle still says of them what is stored, and they reach everything.
 
+mod common;
+
 use std::fs;
 use std::path::{Path, PathBuf};
 
+use common::told_text;
 use oracle::digest::Digest;
 use oracle::generate::example;
 use oracle::play::play;
@@ -62,13 +65,8 @@ fn the_traces_made_by_hand_are_as_stored() {
 fn the_told_text_is_as_stored() {
     for name in if OLD_RULE { &["worked"][..] } else { &["worked", "first-value"] } {
         let trace = folder().join(name).with_extension("trace");
-        let mut text = Text::default();
-        play(fs::File::open(&trace).expect("a trace"), |played| {
-            text.told(played.number, played.outcome, played.replica);
-            Ok(())
-        })
-        .expect("the trace is read");
-        assert_eq!(String::from_utf8(text.bytes).expect("ASCII"), stored(&trace, "tell"));
+        let text = told_text(fs::File::open(&trace).expect("a trace"));
+        assert_eq!(text, stored(&trace, "tell"));
     }
 }
 

@@ -1,11 +1,25 @@
 //! Members driven by calls, and their told state by number.
 #![allow(dead_code)]
 
+use std::io::Read;
+
 use oracle::action::{Action, Kind};
 use oracle::batch::{Batch, Keys};
 use oracle::call::{Call, Entry, Known, KnownList};
+use oracle::play::play;
 use oracle::session::Session;
 use oracle::tell::Text;
+
+/// The told text of a trace.
+pub fn told_text(trace: impl Read) -> String {
+    let mut text = Text::default();
+    play(trace, |played| {
+        text.told(played.number, played.outcome, played.replica);
+        Ok(())
+    })
+    .expect("the trace is read");
+    String::from_utf8(text.bytes).expect("the text is ASCII")
+}
 
 pub struct Member(pub Session);
 
