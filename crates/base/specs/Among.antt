@@ -1,9 +1,14 @@
--- Membership in a list, and a fact about every element of one.
+-- Membership in a list, lists with the same members, and a fact about every element of one.
 use mathlib.Core.List.{List, [], _∷_, _++_, List·Memᴰ, List·Memᴰ·head, List·Memᴰ·tail}
 
 infixl 20 _∈_
 abbrev pub _∈_ : {A : Type 0} → A → List A → Type 0
 a ∈ l = List·Memᴰ a l
+
+-- the same members, in whatever order and however often each
+pub record SameMembers {A : Type 0} (k l : List A) : Type 0 where
+  pub there : (a : A) → a ∈ k → a ∈ l
+  pub back : (a : A) → a ∈ l → a ∈ k
 
 -- of every element: a product, so that it is built by a tuple and used by `all-in`
 abbrev pub All : {A : Type 0} → (A → Type 0) → List A → Type 0

@@ -19,3 +19,8 @@ pub mod GoodLogged
 pub mod Room
 pub mod Largest
 pub mod Theorems
+pub mod OpenReads
+pub mod AnyOrder
+pub mod InARow
+pub mod BetweenReplies
+pub mod AnyOrderRuns

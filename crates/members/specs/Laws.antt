@@ -58,6 +58,14 @@ low-bit x (suc i) (suc n) l =
     let e : x % 2 ^ suc n / 2 ≡ x / 2 % 2 ^ n = omega (arith, low-half x n) in
     rw (half (x % 2 ^ suc n) i, half x i, e) (low-bit (x / 2) i n (omega arith))
 
+-- two numbers below 2 ^ n with the same bits are one
+same-bits : (x y n : ℕ) → x < 2 ^ n → y < 2 ^ n → ((i : ℕ) → i < n → x / 2 ^ i % 2 ≡ y / 2 ^ i % 2) → x ≡ y
+same-bits x y zero h k e = omega arith
+same-bits x y (suc n) h k e =
+    let upper : x / 2 ≡ y / 2 =
+    same-bits (x / 2) (y / 2) n (omega arith) (omega arith) (λ i l. rw (← half x i, ← half y i) (e (suc i) (omega arith))) in
+    omega (arith, first x, first y, e 0 (omega arith))
+
 -- ── who is in a set ──
 
 -- a number above 8 is no member of any set
@@ -83,6 +91,18 @@ has-none m = let e : 0 / 2 ^ m ≡ 0 = div-eq-of-lt (pow-pos m) in rw e (and-fal
 pub has-member : (set m : ℕ) → has set m ≡ true → m < 9
 unfolding has
 has-member set m e = let h = leb-true m 8 (and-left (leb m 8) _ e) in omega arith
+
+-- two sets with the same members are one
+pub sets-same : (a b : ℕ) → a < 512 → b < 512 → ((m : ℕ) → m < 9 → has a m ≡ has b m) → a ≡ b
+sets-same a b h k e =
+    same-bits a b 9 h k (λ m l. one (a / 2 ^ m % 2) (b / 2 ^ m % 2) (sym (has-bit a m (omega arith)) ∙ (e m l ∙ has-bit b m (omega arith))) (omega arith) (omega arith))
+  where
+    one : (x y : ℕ) → eqb x 1 ≡ eqb y 1 → x < 2 → y < 2 → x ≡ y
+    one x y f u v = go (decide (eqb x 1))
+      where
+        go : (eqb x 1 ≡ true) ⊎ (eqb x 1 ≡ false) → x ≡ y
+        go (inl t) = let w = eqb-true y 1 (sym f ∙ t) in omega (arith, tests)
+        go (inr t) = let w = eqb-false y 1 (sym f ∙ t) in omega (arith, tests)
 
 -- ── putting a member in: the four cases ──
 
@@ -156,6 +176,10 @@ within-insert set n i f l = go (decide (ltb 511 set)) (decide (ltb 8 i)) (decide
     go (inr t) (inr u) (inr e) =
         rw (insert-new set i (omega (arith, tests)) (omega (arith, tests)) e)
         (lt-ltb (set + 2 ^ i) (2 ^ n) (set-below set i n (ltb-true set (2 ^ n) f) l (out-bit set i (omega (arith, tests)) e)))
+
+-- a set within a group is below 512
+pub within-small : (set n : ℕ) → n ≤ 9 → fitsGroup set n ≡ true → set < 512
+within-small set n l f = lt-of-lt-of-le (ltb-true set (2 ^ n) f) (pow-mono l)
 
 -- a set stays below 512, whatever is put in
 pub insert-below : (set i : ℕ) → set < 512 → insert set i < 512

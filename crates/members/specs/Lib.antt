@@ -4,3 +4,4 @@ pub mod Ballots
 pub mod Counting
 pub mod Laws
 pub mod Table
+pub mod Many

@@ -1,15 +1,15 @@
 -- What a merge and a reply promise of each key, of the answer and of the read, beyond their definitions.
 use mathlib.Core.Path.{_≡_, refl, sym, ap, _∙_}
-use mathlib.Core.Bool.{Bool, true, false, not, _&&_}
+use mathlib.Core.Bool.{Bool, true, false, not}
 use mathlib.Core.List.{[], _∷_, List·Memᴰ·head, List·Memᴰ·tail}
 use mathlib.Core.Logic.{⊎-elim}
-use Prim.Native.Nat.{ℕ, suc, _+_, _≤_, _<_}
+use Prim.Native.Nat.{ℕ, _≤_, _<_}
 use native.Mathlib.Nat.{le-refl}
 use native.Mathlib.Omega.{arith}
 use lib.ListN.{length, getD-replicate, List·getD-eq-default}
 use lib.Dec.{ltb, leb, eqb}
-use borrow.Author.Tests.{ltb-true, ltb-false, eqb-true, eqb-false, not-true, not-false}
-use Rattle.base.specs.Pick.{coincide, pick, larger, pick-both, pick-cases, decide, clash, larger-left, larger-right, tests}
+use borrow.Author.Tests.{ltb-true, ltb-false, leb-false, eqb-true, eqb-false, not-true, not-false}
+use Rattle.base.specs.Pick.{coincide, pick-both, pick-cases, decide, clash, larger-right, tests}
 use Rattle.base.specs.Among.{_∈_}
 use Rattle.base.specs.Over.{length-over, over-at, over-after}
 use Rattle.base.specs.Scan.{scan-high, scan-passed, scan-stopped}
@@ -24,50 +24,11 @@ use Rattle.tally.specs.declared.MergedKey.the-variants.{Into, Conflict}
 use Rattle.tally.specs.declared.Merged.{Merged}
 use Rattle.tally.specs.declared.Read.{Read}
 use Rattle.tally.specs.declared.Replied.{Replied}
-use Rattle.tally.specs.Merge.{bestNumbers, answerOf, mergeKey, mergedAnswer, conflicts, mergedBest, noBest, bestAt, agree, conflictAt, mergeAt, mergeUpTo, merge}
+use Rattle.tally.specs.Merge.{bestNumbers, answerOf, mergeKey, mergedAnswer, conflicts, mergedBest, noBest, bestAt, agreeAt, conflictAt, mergeAt, mergeUpTo, merge}
+use Rattle.tally.specs.Larger.{level, merged-into, merged-level, merged-rises}
 use Rattle.tally.specs.Open.{nothingKnown, withTally, withAck, stays, replaced, replyTo}
 
 -- ONE KEY
-
--- how much is known of a key, in one order: nothing, then by slot, and at one slot a value above none
-abbrev pub level : Best → ℕ
-level Nothing = 0
-level (Slot s) = suc (s + s)
-level (Value h) = suc (suc (h .slot + h .slot))
-
-up : (a b : ℕ) → a ≤ b → b ≡ larger a b
-up a b h = pick-cases (λ (x : ℕ). b ≡ x) (ltb a b) (λ t. refl) (λ t. omega (arith, tests))
-
-down : (a b : ℕ) → b ≤ a → a ≡ larger a b
-down a b h = pick-cases (λ (x : ℕ). a ≡ x) (ltb a b) (λ t. omega (arith, tests)) (λ t. refl)
-
--- what is told takes the place of what is held where it is not less; else what is held stays, and is not less: the larger of the two
-taken-or-kept : (held told : Best) (taken : Bool) (else : MergedKey) → mergedBest held else ≡ held
-    → (taken ≡ true → level held ≤ level told) → (taken ≡ false → level told ≤ level held)
-    → level (mergedBest held (pick taken (Into told) else)) ≡ larger (level held) (level told)
-taken-or-kept held told taken else stays more less =
-    pick-cases (λ (m : MergedKey). level (mergedBest held m) ≡ larger (level held) (level told)) taken (λ e. up (level held) (level told) (more e))
-    (λ e. rw stays (down (level held) (level told) (less e)))
-
--- a merge leaves the larger of the two: a value goes only where a larger slot is told
-pub merged-level : (held reply : Best) → level (mergedBest held (mergeKey held reply)) ≡ larger (level held) (level reply)
-merged-level held Nothing = down (level held) 0 (omega arith)
-merged-level Nothing (Slot s) = up 0 (level (Slot s)) (omega arith)
-merged-level (Slot t) (Slot s) =
-    taken-or-kept (Slot t) (Slot s) (ltb t s) (Into (Slot t)) refl (λ e. omega (arith, tests)) (λ e. omega (arith, tests))
-merged-level (Value k) (Slot s) =
-    taken-or-kept (Value k) (Slot s) (ltb (k .slot) s) (Into (Value k)) refl (λ e. omega (arith, tests)) (λ e. omega (arith, tests))
-merged-level Nothing (Value h) = up 0 (level (Value h)) (omega arith)
-merged-level (Slot t) (Value h) =
-    taken-or-kept (Slot t) (Value h) (leb t (h .slot)) (Into (Slot t)) refl (λ e. omega (arith, tests)) (λ e. omega (arith, tests))
-merged-level (Value k) (Value h) =
-    let other : Bool = eqb (k .slot) (h .slot) && not (eqb (k .value) (h .value)) in
-    taken-or-kept (Value k) (Value h) (ltb (k .slot) (h .slot)) (pick other Conflict (Into (Value k)))
-    (pick-both (λ (m : MergedKey). mergedBest (Value k) m ≡ Value k) other refl refl) (λ e. omega (arith, tests)) (λ e. omega (arith, tests))
-
--- so nothing known is lost, and neither falls a slot nor goes a value but to a larger slot
-pub merged-rises : (held reply : Best) → level held ≤ level (mergedBest held (mergeKey held reply))
-merged-rises held reply = rw (merged-level held reply) (larger-left (level held) (level reply))
 
 -- 02: what meets nothing held is kept as it came, its value too; so it is no conflict
 pub first-kept : (b : Best) → mergeKey Nothing b ≡ Into b
@@ -85,10 +46,6 @@ answer-tag leader Nothing = refl
 answer-tag leader (Slot s) = refl
 answer-tag leader (Value h) = refl
 
-agreed : (held : Best) (m : MergedKey) → not (conflicts m) ≡ true → m ≡ Into (mergedBest held m)
-agreed held (Into b) e = refl
-agreed held Conflict e = absurd (clash e refl)
-
 clashed : (m : MergedKey) → not (conflicts m) ≡ false → m ≡ Conflict
 clashed (Into b) e = absurd (clash refl e)
 clashed Conflict e = refl
@@ -96,15 +53,15 @@ clashed Conflict e = refl
 -- A TALLY
 
 module _ (held reply : Tally) where
-  merged-at : (n i : ℕ) → i < n → i < length (held .bests)
+  pub merged-at : (n i : ℕ) → i < n → i < length (held .bests)
       → bestAt (mergeUpTo held reply n) i ≡ mergedBest (bestAt held i) (mergeKey (bestAt held i) (bestAt reply i))
   merged-at n i h q = ap (λ (k : KeyBest). k .best) (over-at (mergeAt reply) noBest 0 n (held .bests) i (omega arith) h q)
 
-  kept-at : (n i : ℕ) → n ≤ i → bestAt (mergeUpTo held reply n) i ≡ bestAt held i
+  pub kept-at : (n i : ℕ) → n ≤ i → bestAt (mergeUpTo held reply n) i ≡ bestAt held i
   kept-at n i h = ap (λ (k : KeyBest). k .best) (over-after (mergeAt reply) noBest 0 n (held .bests) i h)
 
   conflict-within : conflictAt held reply ≤ held .count
-  conflict-within = scan-high (agree held reply) 0 (held .count) (omega arith)
+  conflict-within = scan-high (agreeAt held reply) 0 (held .count) (omega arith)
 
   -- a merge is one of five: three refusals, a conflict, or all keys merged
   pub merge-cases : (P : Merged → Type 0) → P (record { answer = 1; tally = held }) → P (record { answer = 10; tally = held })
@@ -177,12 +134,12 @@ module _ (held reply : Tally) where
     pub earlier : (i : ℕ) → i < at → i < length (held .bests) → mergeKey (bestAt held i) (bestAt reply i) ≡ Into (bestAt after i)
     pub later : (i : ℕ) → at ≤ i → bestAt after i ≡ bestAt held i
 
-  passed : (i : ℕ) → i < conflictAt held reply → agree held reply i ≡ true
-  passed i h = scan-passed (agree held reply) 0 (held .count) i (omega arith) h
+  passed : (i : ℕ) → i < conflictAt held reply → agreeAt held reply i ≡ true
+  passed i h = scan-passed (agreeAt held reply) 0 (held .count) i (omega arith) h
 
   passed-into : (i : ℕ) → i < conflictAt held reply → i < length (held .bests)
       → mergeKey (bestAt held i) (bestAt reply i) ≡ Into (bestAt (mergeUpTo held reply (conflictAt held reply)) i)
-  passed-into i h q = rw (merged-at (conflictAt held reply) i h q) (agreed (bestAt held i) _ (passed i h))
+  passed-into i h q = rw (merged-at (conflictAt held reply) i h q) (merged-into (bestAt held i) _ (not-true _ (passed i h)))
 
   pub merge-joined : merge held reply .answer ≡ 0 → Joined (merge held reply .tally)
   merge-joined =
@@ -210,7 +167,7 @@ module _ (held reply : Tally) where
       record {
         at = conflictAt held reply;
         below = h;
-        here = clashed _ (scan-stopped (agree held reply) 0 (held .count) h);
+        here = clashed _ (scan-stopped (agreeAt held reply) 0 (held .count) h);
         earlier = passed-into;
         later = kept-at (conflictAt held reply);
       })
@@ -307,3 +264,13 @@ module _ (quorum peer : ℕ) (leads : Bool) (reply : Tally) (r : Read) where
   pub reply-waits : replyTo quorum peer leads reply r .closes ≡ false → replyTo quorum peer leads reply r .answers ≡ 0
   reply-waits =
       reply-cases (λ (o : Replied). o .closes ≡ false → o .answers ≡ 0) (λ z. absurd (clash refl z)) (λ z. refl) (λ h z. refl) (λ z. refl) (λ z. absurd (clash refl z))
+
+  -- a read that waits for its quorum waits on, unless it closes
+  pub reply-open : countIn (r .acks) < quorum → replyTo quorum peer leads reply r .closes ≡ false → countIn (replyTo quorum peer leads reply r .read .acks) < quorum
+  unfolding replyTo
+  reply-open h =
+      let P : Replied → Type 0 = λ o. o .closes ≡ false → countIn (o .read .acks) < quorum in
+      pick-both P leads (λ z. absurd (clash refl z))
+      (pick-both P (has (r .acks) peer) (λ z. h)
+      (pick-both P (not (eqb (merge (r .tally) reply .answer) 0)) (λ z. h)
+      (pick-cases P (leb quorum (countIn (insert (r .acks) peer))) (λ t z. absurd (clash refl z)) (λ t z. leb-false _ _ t))))

@@ -3,5 +3,8 @@ pub mod Open
 pub mod Listed
 pub mod Turns
 pub mod Cases
+pub mod Larger
 pub mod Laws
+pub mod AnyOrder
 pub mod ReadLaws
+pub mod ReadOrder

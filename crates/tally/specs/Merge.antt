@@ -66,12 +66,12 @@ abbrev pub bestAt : Tally → ℕ → Best
 bestAt t i = getD (t .bests) i noBest .best
 
 -- at key i the two do not conflict
-abbrev pub agree : Tally → Tally → ℕ → Bool
-agree held reply i = not (conflicts (mergeKey (bestAt held i) (bestAt reply i)))
+abbrev pub agreeAt : Tally → Tally → ℕ → Bool
+agreeAt held reply i = not (conflicts (mergeKey (bestAt held i) (bestAt reply i)))
 
 -- the first key below `count` at which the two conflict, or the count
 abbrev pub conflictAt : Tally → Tally → ℕ
-conflictAt held reply = scan (agree held reply) 0 (held .count)
+conflictAt held reply = scan (agreeAt held reply) 0 (held .count)
 
 abbrev pub mergeAt : Tally → ℕ → KeyBest → KeyBest
 mergeAt reply i held = record { best = mergedBest (held .best) (mergeKey (held .best) (bestAt reply i)) }

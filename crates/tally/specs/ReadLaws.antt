@@ -7,10 +7,10 @@ use Prim.Native.Nat.{ℕ, _+_, _-_, _≤_, _<_}
 use native.Mathlib.Nat.{le-refl}
 use native.Mathlib.Omega.{arith}
 use lib.ListN.{length, getD, set, length-set, List·getD-map}
-use lib.Seq.{getD-set-same, getD-set-other, map-set-same}
+use lib.Seq.{getD-set-same, getD-set-other, map-set-same, set-set, set-getD}
 use lib.Dec.{ltb, leb, eqb}
-use borrow.Author.Tests.{le-ltb, le-leb, lt-leb, ltb-false, leb-false, eqb-true, eqb-false, not-true, not-false}
-use Rattle.base.specs.Pick.{pick, pick-both, pick-cases, same?, and-right, or-false, tests}
+use borrow.Author.Tests.{le-ltb, le-leb, lt-leb, ltb-true, ltb-false, leb-false, eqb-true, eqb-false, not-true, not-false}
+use Rattle.base.specs.Pick.{pick, pick-both, pick-cases, decide, same?, and-right, or-false, tests}
 use Rattle.base.specs.Among.{_∈_}
 use Rattle.base.specs.Find.{twice, any, any-false, search-found, search-more, search-done}
 use Rattle.base.specs.Scan.{scan-high, scan-passed, scan-stopped}
@@ -51,6 +51,20 @@ module _ (rs : Reads) (id : ℕ) where
       pick-cases (λ (x : ℕ). rs .count ≤ x → (i : ℕ) → i < rs .count → idAt rs i ≡ id → ⊥) (ltb 16 (rs .count))
       (λ t h i q. absurd (omega (arith, tests)))
       (λ t h i q. eqb-false _ _ (not-true _ (scan-passed (otherIdAt rs id) 0 (rs .count) i (omega arith) (omega arith))))
+
+  -- where ids are distinct it is found at its place
+  pub find-only : (i : ℕ) → rs .count ≤ 16 → Distinct rs → i < rs .count → idAt rs i ≡ id → findRead rs id ≡ i
+  find-only i few d h e =
+      ⊎-elim (λ (t : ltb (findRead rs id) (rs .count) ≡ true). d (findRead rs id) i (ltb-true _ _ t) h (find-id (ltb-true _ _ t) ∙ sym e))
+      (λ (t : ltb (findRead rs id) (rs .count) ≡ false). absurd (find-absent few (ltb-false _ _ t) i h e))
+      (decide (ltb (findRead rs id) (rs .count)))
+
+  -- and where no read has it, nowhere
+  pub find-nowhere : ((i : ℕ) → i < rs .count → idAt rs i ≡ id → ⊥) → rs .count ≤ findRead rs id
+  find-nowhere n =
+      ⊎-elim (λ (t : ltb (findRead rs id) (rs .count) ≡ true). absurd (n (findRead rs id) (ltb-true _ _ t) (find-id (ltb-true _ _ t))))
+      (λ (t : ltb (findRead rs id) (rs .count) ≡ false). ltb-false _ _ t)
+      (decide (ltb (findRead rs id) (rs .count)))
 
 -- A READ OPENED
 
@@ -167,18 +181,33 @@ module _ (rs : Reads) (at : ℕ) where
       (λ t. pick-cases (λ (x : ℕ). rs .count - 1 ≡ x → i ≡ j) (eqb j at) (λ u e. omega (arith, tests)) (λ u e. absurd (omega arith)))
       (λ t. pick-cases (λ (x : ℕ). i ≡ x → i ≡ j) (eqb j at) (λ u e. absurd (omega arith)) (λ u e. e))
 
-  moved : at < length (rs .reads) → (i : ℕ) → idAt without i ≡ idAt rs (from i)
+  moved : at < length (rs .reads) → (i : ℕ) → readAt without i ≡ readAt rs (from i)
   moved h i =
-      pick-cases (λ (x : ℕ). idAt without i ≡ idAt rs x) (eqb i at)
-      (λ t. rw (eqb-true i at t) (ap (λ (r : Read). r .id) (getD-set-same (rs .reads) at _ noRead h)))
-      (λ t. ap (λ (r : Read). r .id) (getD-set-other (rs .reads) at i _ noRead (eqb-false i at t)))
+      pick-cases (λ (x : ℕ). readAt without i ≡ readAt rs x) (eqb i at)
+      (λ t. rw (eqb-true i at t) (getD-set-same (rs .reads) at _ noRead h))
+      (λ t. getD-set-other (rs .reads) at i _ noRead (eqb-false i at t))
 
   pub close-distinct : length (rs .reads) ≡ 16 → Distinct rs → Distinct (closeRead rs at)
   close-distinct sized d =
       close-cases Distinct d
       (λ f h i j p q e.
-      let before : (k : ℕ) → idAt without k ≡ idAt rs (from k) = moved (omega arith) in
+      let before : (k : ℕ) → idAt without k ≡ idAt rs (from k) = λ k. ap (λ (r : Read). r .id) (moved (omega arith) k) in
       from-one i j p q (d (from i) (from j) (from-below i p) (from-below j q) (sym (before i) ∙ (e ∙ before j))))
+
+  -- what holds of every read in use holds of those that are left
+  pub close-each : (P : Read → Type 0) → length (rs .reads) ≡ 16 → ((i : ℕ) → i < rs .count → P (readAt rs i))
+      → (i : ℕ) → i < closeRead rs at .count → P (readAt (closeRead rs at) i)
+  close-each P sized p =
+      close-cases (λ (o : Reads). (i : ℕ) → i < o .count → P (readAt o i)) p (λ f h i q. rw (moved (omega arith) i) (p (from i) (from-below i q)))
+
+  -- no other read has the id of the one that closes
+  pub close-gone : length (rs .reads) ≡ 16 → rs .count ≤ 16 → Distinct rs → at < rs .count → (i : ℕ) → i < closeRead rs at .count
+      → idAt (closeRead rs at) i ≡ idAt rs at → ⊥
+  close-gone sized few d h =
+      rw (close-here few h)
+      (λ i q e.
+      pick-cases (λ (x : ℕ). x ≡ at → ⊥) (eqb i at) (λ t f. omega (arith, tests)) (λ t f. omega (arith, tests))
+      (d (from i) at (from-below i q) h (sym (ap (λ (r : Read). r .id) (moved (omega arith) i)) ∙ e)))
 
 -- A READ WRITTEN ANEW
 
@@ -213,6 +242,20 @@ module _ (rs : Reads) (at : ℕ) (r : Read) where
 
   pub put-distinct : r .id ≡ idAt rs at → Distinct rs → Distinct (putRead rs at r)
   put-distinct e d i j p q x = d i j (omega (arith, put-count)) (omega (arith, put-count)) (sym (put-ids e i) ∙ (x ∙ put-ids e j))
+
+-- a read written anew twice, or as it stands; and closed after it was written anew: as if it had closed before
+module _ (rs : Reads) (at : ℕ) where
+  pub put-again : (r s : Read) → putRead (putRead rs at r) at s ≡ putRead rs at s
+  unfolding putRead
+  put-again r s =
+      pick-cases (λ (o : Reads). putRead o at s ≡ putRead rs at s) (ltb 16 (rs .count) || leb (rs .count) at) (λ t. refl)
+      (λ t. rw t (ap (λ (l : List Read). record { count = rs .count; reads = l }) (set-set (rs .reads) at r s)))
+
+  pub put-back : putRead rs at (readAt rs at) ≡ rs
+  unfolding putRead
+  put-back =
+      pick-both (λ (o : Reads). o ≡ rs) (ltb 16 (rs .count) || leb (rs .count) at) refl
+      (ap (λ (l : List Read). record { count = rs .count; reads = l }) (set-getD (rs .reads) at noRead))
 
 -- THE FIT TEST
 

@@ -14,13 +14,13 @@ use Rattle.tally.specs.declared.MergedKey.{MergedKey}
 use Rattle.tally.specs.declared.MergedKey.the-variants.{Into, Conflict}
 use Rattle.tally.specs.declared.Reads.{Reads}
 use Rattle.tally.specs.Open.{noRead, otherIdAt, findRead}
-use Rattle.tally.specs.Merge.{mergeKey, noBest, bestAt, agree, conflictAt, mergeAt, mergeUpTo, merge}
+use Rattle.tally.specs.Merge.{mergeKey, noBest, bestAt, agreeAt, conflictAt, mergeAt, mergeUpTo, merge}
 
 module _ (held reply : Tally) where
   -- the keys below i are merged, and none of them conflicts
   pub record Merging (i : ℕ) (s : Tally) : Type 0 where
     pub tally : s ≡ mergeUpTo held reply i
-    pub on : scan (agree held reply) i (held .count) ≡ conflictAt held reply
+    pub on : scan (agreeAt held reply) i (held .count) ≡ conflictAt held reply
     pub within : i ≤ held .count
 
   pub merging-start : Merging 0 held
@@ -37,7 +37,7 @@ module _ (held reply : Tally) where
       let here : mergeKey (bestAt (mergeUpTo held reply i) i) (bestAt reply i) ≡ Into b = rw (← g .tally, ← e) f in
       record {
         tally = rw (over-more (mergeAt reply) noBest 0 i (held .bests) (omega arith), here, g .tally);
-        on = sym (scan-on (agree held reply) i (held .count) h (rw same)) ∙ g .on;
+        on = sym (scan-on (agreeAt held reply) i (held .count) h (rw same)) ∙ g .on;
         within = omega arith;
       }
 
@@ -61,13 +61,13 @@ module _ (held reply : Tally) where
         unfolding merge
         merging-stop m h e f =
             let same : mergeKey (bestAt held i) (bestAt reply i) ≡ Conflict = rw (← merging-at i s (g .tally), ← e) f in
-            let stop : conflictAt held reply ≡ i = sym (g .on) ∙ scan-stop (agree held reply) i (held .count) h (rw same) in
+            let stop : conflictAt held reply ≡ i = sym (g .on) ∙ scan-stop (agreeAt held reply) i (held .count) h (rw same) in
             rw (le-ltb 8 (held .count) few, le-ltb 8 (reply .count) fewer, eq-eqb (held .count) (reply .count) even, stop, lt-ltb i (held .count) h, g .tally)
 
         pub merging-end : held .count ≤ i → record { answer = 0; tally = s } ≡ merge held reply
         unfolding merge
         merging-end h =
-            let stop : conflictAt held reply ≡ i = sym (g .on) ∙ scan-end (agree held reply) i (held .count) h in
+            let stop : conflictAt held reply ≡ i = sym (g .on) ∙ scan-end (agreeAt held reply) i (held .count) h in
             rw (le-ltb 8 (held .count) few, le-ltb 8 (reply .count) fewer, eq-eqb (held .count) (reply .count) even, stop, le-ltb i (held .count) h, g .tally)
 
 module _ (rs : Reads) (id : ℕ) where

@@ -1,0 +1,312 @@
+-- Replies to an open read, one after the other and up to the quorum: neither order nor repetition makes a difference. The statement is `InAnyOrder` (AnyOrder).
+use mathlib.Core.Path.{_≡_, refl, sym, ap, subst, _∙_}
+use mathlib.Core.Bool.{true, false}
+use mathlib.Core.List.{List, [], _∷_, _++_, append-nil, List·Memᴰ·head, List·Memᴰ·tail}
+use mathlib.Core.Logic.{_⊎_, ⊎-elim}
+use Prim.Native.Nat.{ℕ, _-_, _≤_, _<_}
+use native.Mathlib.Omega.{arith}
+use lib.Dec.{leb}
+use lib.ListN.{length}
+use borrow.Author.Tests.{lt-ltb, le-ltb, le-leb, lt-leb, leb-true, leb-false}
+use Rattle.base.specs.Pick.{pick-cases, decide, clash, same?, and-both, and-make}
+use Rattle.base.specs.Among.{_∈_, SameMembers, All}
+use Rattle.members.specs.Sets.{countIn}
+use Rattle.members.specs.Laws.{group-bounds, within-small, insert-again}
+use Rattle.members.specs.Many.{insertAll, insertAll-same}
+use Rattle.tally.specs.declared.Tally.{Tally}
+use Rattle.tally.specs.declared.Read.{Read}
+use Rattle.tally.specs.declared.Reads.{Reads}
+use Rattle.tally.specs.declared.Replied.{Replied}
+use Rattle.tally.specs.Open.{closeRead, putRead, stays, quorumCloses, replyTo}
+use Rattle.tally.specs.ReadLaws.{readAt as tableAt, idAt, Distinct, find-id, find-only, find-nowhere, close-others, close-last, close-count, close-gone, put-count, put-length, put-others, put-here, put-distinct, put-again, put-back}
+use Rattle.tally.specs.ReadOrder.{heard, Agreed, joinedBy, agreed-cases, heard-full, read-any-order}
+use Rattle.actions.specs.Actions.{Act}
+use Rattle.decide.specs.Scalars.{quorum}
+use Rattle.replica.specs.declared.Replica.{Replica}
+use Rattle.replica.specs.Record.{Outcome, kept}
+use Rattle.replica.specs.Fit.{fit, ready}
+use Rattle.replica.specs.Quorumread.{withReads, repliedStep, readReplyStep}
+use Rattle.laws.specs.OfFit.{fit-facts}
+use Rattle.laws.specs.WaysAdded.{readPlace, readAt, closed, stayed}
+use Rattle.laws.specs.AnyOrder.{readOf, Open, Hears, acknowledgedWith, replyOf, replied, repliedActs, repliedAnswers, SameInUse, InAnyOrder, allAnswers}
+use Rattle.laws.specs.Theorems.{fit-stays}
+
+-- ONE REPLY
+
+module _ (r : Replica) (n m id : ℕ) (reply : Tally) (on : ready r n ≡ true) (member : m < r .sc .group) (few : reply .count ≤ 8) where
+  pub reply-known : (p : ℕ) → readPlace r id ≡ p → p < r .reads .count → readReplyStep r n m id false reply ≡ repliedStep r p (replyTo (quorum (r .sc)) m false reply (readAt r p))
+  unfolding readReplyStep
+  reply-known p e h = rw (on, lt-ltb m (r .sc .group) member, le-ltb 8 (reply .count) few, e, lt-leb (r .reads .count) p h)
+
+  reply-unknown : r .reads .count ≤ readPlace r id → readReplyStep r n m id false reply ≡ kept 0 r
+  unfolding readReplyStep
+  reply-unknown h = rw (on, lt-ltb m (r .sc .group) member, le-ltb 8 (reply .count) few, le-leb (r .reads .count) (readPlace r id) h)
+
+-- a member that was acknowledged; one that is
+module _ (r : Replica) (p : ℕ) (d : Read) where
+  pub replied-again : repliedStep r p (stays 0 d) ≡ stayed 0 r p d
+  unfolding repliedStep
+  replied-again = refl
+
+  replied-less : (q : ℕ) → leb q (countIn (d .acks)) ≡ false → repliedStep r p (quorumCloses q d) ≡ stayed 0 r p d
+  unfolding repliedStep
+  replied-less q e = rw e
+
+  pub replied-full : (q : ℕ) → leb q (countIn (d .acks)) ≡ true → repliedStep r p (quorumCloses q d) ≡ closed r p d (d .tally .count)
+  unfolding repliedStep
+  replied-full q e = rw e
+
+same-refl : (a : Replica) → SameInUse a a
+same-refl a = record { sc = refl; bars = refl; window = refl; keys = refl; count = refl; reads = λ i h. refl }
+
+same-sym : (a b : Replica) → SameInUse a b → SameInUse b a
+same-sym a b s =
+    record {
+      sc = sym (s .sc);
+      bars = sym (s .bars);
+      window = sym (s .window);
+      keys = sym (s .keys);
+      count = sym (s .count);
+      reads = λ i h. sym (s .reads i (omega (arith, s .count)));
+    }
+
+same-trans : (a b c : Replica) → SameInUse a b → SameInUse b c → SameInUse a c
+same-trans a b c s t =
+    record {
+      sc = s .sc ∙ t .sc;
+      bars = s .bars ∙ t .bars;
+      window = s .window ∙ t .window;
+      keys = s .keys ∙ t .keys;
+      count = s .count ∙ t .count;
+      reads = λ i h. s .reads i h ∙ t .reads i (omega (arith, s .count));
+    }
+
+-- MANY REPLIES
+
+-- a read that has closed: whoever answers is ignored
+module _ (room id : ℕ) (said : ℕ → Tally) (r : Replica) (on : ready r room ≡ true) (gone : r .reads .count ≤ readPlace r id) where
+  record Ignored (ms : List ℕ) (after : Replica) (acts : List Act) (answers : List ℕ) : Type 0 where
+    replica : after ≡ r
+    actions : acts ≡ []
+    zeros : All (λ (answer : ℕ). answer ≡ 0) answers
+
+  ignored : (ms : List ℕ) → ((m : ℕ) → m ∈ ms → m < r .sc .group) → ((m : ℕ) → m ∈ ms → said m .count ≤ 8)
+      → Ignored ms (replied room id said r ms) (repliedActs room id said r ms) (repliedAnswers room id said r ms)
+  ignored [] members few = record { replica = refl; actions = refl; zeros = tt }
+  ignored (m ∷ ms) members few =
+      let rest = ignored ms (λ x o. members x (List·Memᴰ·tail o)) (λ x o. few x (List·Memᴰ·tail o)) in
+      rw (reply-unknown r room m id (said m) on (members m (List·Memᴰ·head refl)) (few m (List·Memᴰ·head refl)) gone)
+      (record { replica = rest .replica; actions = rest .actions; zeros = (refl, rest .zeros) })
+
+-- a replica with a read open at place p, and the same with that read as d
+module _ (room id : ℕ) (said : ℕ → Tally) (r : Replica) (p : ℕ) where
+  abbrev with : Read → Replica
+  with d = withReads r (putRead (r .reads) p d)
+
+  -- what holds of r itself
+  record Base : Type 0 where
+    below : p < r .reads .count
+    table : r .reads .count ≤ 16
+    long : length (r .reads .reads) ≡ 16
+    ids : Distinct (r .reads)
+    here : idAt (r .reads) p ≡ id
+    roomy : 3456 ≤ room
+
+  -- what holds of the read and of the members yet to be heard
+  record Stage (d : Read) (ms : List ℕ) : Type 0 where
+    fits : fit (with d) ≡ true
+    named : d .id ≡ id
+    agreed : Agreed said d ms
+    members : (m : ℕ) → m ∈ ms → m < r .sc .group
+    few : (m : ℕ) → m ∈ ms → said m .count ≤ 8
+    waits : countIn (d .acks) < quorum (r .sc)
+    up-to : countIn (insertAll (d .acks) ms) ≤ quorum (r .sc)
+
+  -- how it ends, by what the read is then: still open, or closed with its answers
+  record Ends (d : Read) (after : Replica) (acts : List Act) (zeros : List ℕ) : Type 0 where
+    done : All (λ (answer : ℕ). answer ≡ 0) zeros
+    still : leb (quorum (r .sc)) (countIn (d .acks)) ≡ false → (after ≡ with d) × (acts ≡ [])
+    shut : leb (quorum (r .sc)) (countIn (d .acks)) ≡ true → SameInUse after (withReads r (closeRead (r .reads) p)) × (acts ≡ allAnswers (r .sc .leader) d)
+
+  module _ (base : Base) where
+    found : (d : Read) → d .id ≡ id → readPlace (with d) id ≡ p
+    found d e =
+        find-only (putRead (r .reads) p d) id p (omega (arith, base .table, put-count (r .reads) p d)) (put-distinct (r .reads) p d (e ∙ sym (base .here)) (base .ids))
+        (omega (arith, base .below, put-count (r .reads) p d)) (ap (λ (x : Read). x .id) (put-here (r .reads) p d (base .long) (base .table) (base .below)) ∙ e)
+
+    with-with : (d e : Read) → withReads (with d) (putRead (with d .reads) p e) ≡ with e
+    with-with d e = ap (λ (rs : Reads). withReads r rs) (put-again (r .reads) p d e)
+
+    on : (a : Replica) → fit a ≡ true → ready a room ≡ true
+    on a f = and-make (le-leb 3456 room (base .roomy)) f
+
+    one-reply : (d : Read) (m : ℕ) → fit (with d) ≡ true → d .id ≡ id → m < r .sc .group → said m .count ≤ 8
+        → readReplyStep (with d) room m id false (said m) ≡ repliedStep (with d) p (replyTo (quorum (r .sc)) m false (said m) d)
+    one-reply d m f e l q =
+        reply-known (with d) room m id (said m) (on (with d) f) l q p (found d e) (omega (arith, base .below, put-count (r .reads) p d))
+        ∙ ap (λ (x : Read). repliedStep (with d) p (replyTo (quorum (r .sc)) m false (said m) x)) (put-here (r .reads) p d (base .long) (base .table) (base .below))
+
+    -- the read has closed: what it was leaves no trace in a place that is in use
+    abbrev shutAt : Read → Replica
+    shutAt d = withReads (with d) (closeRead (with d .reads) p)
+
+    shut-count : (d : Read) → shutAt d .reads .count ≡ closeRead (r .reads) p .count
+    shut-count d =
+        omega (
+          arith,
+          base .table,
+          base .below,
+          put-count (r .reads) p d,
+          close-count (r .reads) p (base .table) (base .below),
+          close-count (with d .reads) p (omega (arith, base .table, put-count (r .reads) p d)) (omega (arith, base .below, put-count (r .reads) p d)),
+        )
+
+    shut-reads : (d : Read) (i : ℕ) → i < shutAt d .reads .count → readAt (shutAt d) i ≡ tableAt (closeRead (r .reads) p) i
+    shut-reads d i h =
+        let n = put-count (r .reads) p d in
+        let few : with d .reads .count ≤ 16 = omega (arith, base .table) in
+        let below : p < with d .reads .count = omega (arith, base .below) in
+        ⊎-elim
+        (λ (e : i ≡ p).
+        rw e
+        (close-last (with d .reads) p (put-length (r .reads) p d ∙ base .long) few below
+        ∙ (ap (λ (x : ℕ). tableAt (with d .reads) (x - 1)) n
+        ∙ (put-others (r .reads) p d (r .reads .count - 1) (λ z. omega (arith, shut-count d, close-count (r .reads) p (base .table) (base .below)))
+        ∙ sym (close-last (r .reads) p (base .long) (base .table) (base .below))))))
+        (λ (e : i ≡ p → ⊥). close-others (with d .reads) p i e ∙ (put-others (r .reads) p d i e ∙ sym (close-others (r .reads) p i e)))
+        (same? i p)
+
+    shut-same : (d : Read) → SameInUse (shutAt d) (withReads r (closeRead (r .reads) p))
+    shut-same d = record { sc = refl; bars = refl; window = refl; keys = refl; count = shut-count d; reads = shut-reads d }
+
+    shut-gone : (d : Read) → d .id ≡ id → shutAt d .reads .count ≤ readPlace (shutAt d) id
+    shut-gone d e =
+        let few : with d .reads .count ≤ 16 = omega (arith, base .table, put-count (r .reads) p d) in
+        let below : p < with d .reads .count = omega (arith, base .below, put-count (r .reads) p d) in
+        let named : idAt (with d .reads) p ≡ id = ap (λ (x : Read). x .id) (put-here (r .reads) p d (base .long) (base .table) (base .below)) ∙ e in
+        find-nowhere (closeRead (with d .reads) p) id
+        (λ i h f.
+        close-gone (with d .reads) p (put-length (r .reads) p d ∙ base .long) few (put-distinct (r .reads) p d (e ∙ sym (base .here)) (base .ids)) below i h
+        (f ∙ sym named))
+
+    -- what comes of the rest, once one reply has made o of the read
+    abbrev Then : Read → List ℕ → Replied → Type 0
+    Then d ms o =
+        let after : Outcome = repliedStep (with d) p o in
+        fit (after .replica) ≡ true
+        → Ends (heard (quorum (r .sc)) said (o .read) ms) (replied room id said (after .replica) ms) (after .actions ++ repliedActs room id said (after .replica) ms)
+        (after .answer ∷ repliedAnswers room id said (after .replica) ms)
+
+    -- it stays open, as e
+    then-open : (d e : Read) (ms : List ℕ)
+        → (fit (with e) ≡ true → Ends (heard (quorum (r .sc)) said e ms) (replied room id said (with e) ms) (repliedActs room id said (with e) ms) (repliedAnswers room id said (with e) ms))
+        → Then d ms (stays 0 e)
+    then-open d e ms rest =
+        rw (replied-again (with d) p e, with-with d e) (λ f. record { done = (refl, rest f .done); still = rest f .still; shut = rest f .shut })
+
+    -- it closes, as e: whoever comes after is ignored
+    then-shut : (d e : Read) (ms : List ℕ) → d .id ≡ id → Agreed said e ms → ((m : ℕ) → m ∈ ms → m < r .sc .group) → ((m : ℕ) → m ∈ ms → said m .count ≤ 8)
+        → countIn (insertAll (e .acks) ms) ≤ quorum (r .sc) → leb (quorum (r .sc)) (countIn (e .acks)) ≡ true
+        → Then d ms (record { answer = 0; closes = true; answers = e .tally .count; read = e })
+    unfolding repliedStep
+    then-shut d e ms named agreed members few up-to t f =
+        let rest = ignored room id said (shutAt d) (on (shutAt d) f) (shut-gone d named) ms members few in
+        rw (heard-full (quorum (r .sc)) said e ms agreed (leb-true _ _ t) up-to)
+        (record {
+          done = (refl, rest .zeros);
+          still = λ z. absurd (clash t z);
+          shut = λ z. (rw (rest .replica) (shut-same d), rw (rest .actions) (append-nil (allAnswers (r .sc .leader) e)));
+        })
+
+    ends : (d : Read) (ms : List ℕ) → Stage d ms
+        → Ends (heard (quorum (r .sc)) said d ms) (replied room id said (with d) ms) (repliedActs room id said (with d) ms) (repliedAnswers room id said (with d) ms)
+    ends d [] s = record { done = tt; still = λ e. (refl, refl); shut = λ e. absurd (omega (arith, leb-true, s .waits)) }
+    ends d (m ∷ ms) s =
+        let first : readReplyStep (with d) room m id false (said m) ≡ repliedStep (with d) p (replyTo (quorum (r .sc)) m false (said m) d) =
+        one-reply d m (s .fits) (s .named) (s .members m (List·Memᴰ·head refl)) (s .few m (List·Memᴰ·head refl)) in
+        let members : (x : ℕ) → x ∈ ms → x < r .sc .group = λ x o. s .members x (List·Memᴰ·tail o) in
+        let few : (x : ℕ) → x ∈ ms → said x .count ≤ 8 = λ x o. s .few x (List·Memᴰ·tail o) in
+        rw first
+        (agreed-cases (quorum (r .sc)) said (Then d ms) d m ms (s .agreed)
+        (λ t k. then-open d d ms
+        (λ f. ends d ms (record { fits = f; named = s .named; agreed = k; members = members; few = few; waits = s .waits; up-to = rw (insert-again (d .acks) m t) at (s .up-to) })))
+        (λ t k.
+        let e : Read = joinedBy said d m in
+        pick-cases (Then d ms) (leb (quorum (r .sc)) (countIn (e .acks))) (then-shut d e ms (s .named) k members few (s .up-to))
+        (λ z. then-open d e ms
+        (λ f. ends e ms (record { fits = f; named = s .named; agreed = k; members = members; few = few; waits = leb-false _ _ z; up-to = s .up-to }))))
+        (rw first at (fit-stays (with d) room (replyOf id said m) (s .fits))))
+
+-- THE THEOREM
+
+-- what is said of the replies, of the read alone: a fit replica's tally has its places, its set is a group's
+pub agreed-of : (id : ℕ) (said : ℕ → Tally) (r : Replica) (ms : List ℕ) → Open id r → Hears id said r ms → Agreed said (readOf r id) ms
+agreed-of id said r ms o h =
+    let fits = fit-facts r (o .fits) in
+    let nine = group-bounds (r .sc .group) (fits .numbers .size) .1 in
+    let two = and-both (leb (readOf r id .tally .count) 8) _ (fits .reads .each (readPlace r id) (o .known)) in
+    record {
+      eight = record { few = leb-true _ _ (two .0); places = o .sized .read-bests (readPlace r id) (o .known) };
+      set = within-small (readOf r id .acks) (r .sc .group) nine (two .1);
+      members = λ m p. omega (arith, h .members m p);
+      with-held = h .with-held;
+      with-each = h .with-each;
+    }
+
+-- fewer of them
+pub hears-within : (id : ℕ) (said : ℕ → Tally) (r : Replica) (k l : List ℕ) → Hears id said r k → ((m : ℕ) → m ∈ l → m ∈ k) → Hears id said r l
+hears-within id said r k l h w =
+    record {
+      members = λ m p. h .members m (w m p);
+      few = λ m p. h .few m (w m p);
+      with-held = λ m p. h .with-held m (w m p);
+      with-each = λ m n p q. h .with-each m n (w m p) (w n q);
+    }
+
+pub acknowledged-same : (id : ℕ) (said : ℕ → Tally) (r : Replica) (k l : List ℕ) → Open id r → Hears id said r k → SameMembers k l
+    → acknowledgedWith id r k ≡ acknowledgedWith id r l
+acknowledged-same id said r k l o h s =
+    let g = agreed-of id said r k o h in ap countIn (insertAll-same (readOf r id .acks) k l (g .set) (g .members) s)
+
+module _ (room id : ℕ) (said : ℕ → Tally) (r : Replica) (roomy : 3456 ≤ room) (o : Open id r) where
+  ends-of : (ms : List ℕ) → Hears id said r ms → acknowledgedWith id r ms ≤ quorum (r .sc)
+      → Ends room id said r (readPlace r id) (heard (quorum (r .sc)) said (readOf r id) ms) (replied room id said r ms) (repliedActs room id said r ms)
+      (repliedAnswers room id said r ms)
+  ends-of ms h u =
+      let p : ℕ = readPlace r id in
+      let d : Read = readOf r id in
+      let named : d .id ≡ id = find-id (r .reads) id (o .known) in
+      let base : Base room id said r p =
+      record { below = o .known; table = fit-facts r (o .fits) .reads .count; long = o .sized .reads; ids = o .waiting .ids; here = named; roomy = roomy } in
+      let same : withReads r (putRead (r .reads) p d) ≡ r = ap (λ (rs : Reads). withReads r rs) (put-back (r .reads) p) in
+      subst
+      (λ (x : Replica). Ends room id said r p (heard (quorum (r .sc)) said d ms) (replied room id said x ms) (repliedActs room id said x ms) (repliedAnswers room id said x ms))
+      same
+      (ends room id said r p base d ms
+      (record {
+        fits = rw same (o .fits);
+        named = named;
+        agreed = agreed-of id said r ms o h;
+        members = h .members;
+        few = h .few;
+        waits = o .waiting .waits p (o .known);
+        up-to = u;
+      }))
+
+pub in-any-order : InAnyOrder
+in-any-order room id said r k l roomy o h u s =
+    let q : ℕ = quorum (r .sc) in
+    let one = ends-of room id said r roomy o k h u in
+    let two = ends-of room id said r roomy o l (hears-within id said r k l h (s .back)) (rw (acknowledged-same id said r k l o h s) at u) in
+    let same : heard q said (readOf r id) k ≡ heard q said (readOf r id) l = read-any-order q said (readOf r id) k l (agreed-of id said r k o h) s in
+    ⊎-elim
+    (λ (t : leb q (countIn (heard q said (readOf r id) k .acks)) ≡ true).
+    let x = one .shut t in
+    let y = two .shut (rw same at t) in
+    record { replica = same-trans _ _ _ (x .0) (same-sym _ _ (y .0)); actions = x .1 ∙ rw same (sym (y .1)); answers = one .done })
+    (λ (t : leb q (countIn (heard q said (readOf r id) k .acks)) ≡ false).
+    let x = one .still t in
+    let y = two .still (rw same at t) in
+    let z : replied room id said r k ≡ replied room id said r l = x .0 ∙ rw same (sym (y .0)) in
+    record { replica = rw z (same-refl _); actions = x .1 ∙ sym (y .1); answers = one .done })
+    (decide (leb q (countIn (heard q said (readOf r id) k .acks))))
