@@ -6,10 +6,10 @@ use mathlib.Core.List.{List, [], _∷_, _++_, List·Memᴰ·head, List·Memᴰ·
 use mathlib.Core.Logic.{⊎-elim}
 use Prim.Native.Nat.{ℕ, _-_, _≤_, _<_}
 use native.Mathlib.Omega.{arith}
-use lib.Dec.{ltb, leb, eqb}
+use lib.Dec.{ltb, leb}
 use lib.ListN.{getD}
 use lib.Seq.{getD-set-other}
-use borrow.Author.Tests.{le-leb, leb-true, leb-false, eqb-false}
+use borrow.Author.Tests.{le-leb, leb-true, leb-false}
 use Rattle.base.specs.Pick.{pick-both, pick-cases, same?, and-make}
 use Rattle.base.specs.Among.{_∈_}
 use Rattle.members.specs.Sets.{insert, countIn}
@@ -23,19 +23,20 @@ use Rattle.tally.specs.declared.Opened.{Opened}
 use Rattle.tally.specs.declared.Replied.{Replied}
 use Rattle.tally.specs.Open.{noRead, closeRead, replyTo, staysOpen}
 use Rattle.tally.specs.ReadLaws.{idAt, find-id, find-only, open-cases, close-others, close-last, close-count, put-count, put-others, put-here}
-use Rattle.tally.specs.ReadOrder.{heard, Agreed, joinedBy, agreed-cases, agreed-append, heard-append, heard-after, read-any-order}
+use Rattle.tally.specs.ReadOrder.{readAfter, Agreed, joinedBy, agreed-cases, agreed-append, after-append, after-collected, read-any-order}
 use Rattle.decide.specs.Scalars.{isMember, quorum}
 use Rattle.replica.specs.declared.Replica.{Replica}
 use Rattle.replica.specs.Record.{Outcome}
 use Rattle.replica.specs.Fit.{fit, ready}
+use Rattle.replica.specs.ReadCallLaws.{reply-known}
 use Rattle.replica.specs.Quorumread.{withReads, openReadStep, repliedStep, readReplyStep}
-use Rattle.replica.specs.Step.{Call, callPrepare, callPrepareReply, callAccept, callAcceptReply, callCommitNotice, callTimeout, callLogged, callOffer, callExecuted, callOpenRead, callReadReply, step}
+use Rattle.replica.specs.Step.{Call, step}
 use Rattle.laws.specs.OfFit.{fit-facts}
 use Rattle.laws.specs.WaysAdded.{readPlace, readAt, stayed}
 use Rattle.laws.specs.Good.{Sized}
-use Rattle.laws.specs.OpenReads.{other-calls, Waiting, waiting-stays}
-use Rattle.laws.specs.AnyOrder.{readOf, Open, Hears, replyOf, repliesTo, Calls, no-more, aside, from-member, KnowsHeard, SameRead, allAnswers, AnswersHeard, SameAnswers}
-use Rattle.laws.specs.InARow.{reply-known, replied-again, agreed-of, hears-within, acknowledged-same}
+use Rattle.laws.specs.OpenReads.{call-cases, other-calls, Waiting, waiting-stays}
+use Rattle.laws.specs.AnyOrder.{readOf, ReadOpen, AgreeingReplies, memberReply, Aside, CallsBetween, no-more, aside, from-member, KnowsHeard, SameRead, allAnswers, AnswersHeard, SameAnswers}
+use Rattle.laws.specs.InARow.{member-in, replied-again, agreed-of, replies-within, acknowledged-same}
 use Rattle.laws.specs.Theorems.{fit-stays, group-stays, sizes-stay}
 
 -- ANOTHER CALL
@@ -45,12 +46,12 @@ abbrev Stands : Read → Replica → Type 0
 Stands d a = (i : ℕ) × (i < a .reads .count) × (readAt a i ≡ d)
 
 -- where it stands it is found
-stands-open : (id : ℕ) (a : Replica) (d : Read) → fit a ≡ true → Sized a → Waiting a → d .id ≡ id → Stands d a → Open id a × (readOf a id ≡ d)
+stands-open : (id : ℕ) (a : Replica) (d : Read) → fit a ≡ true → Sized a → Waiting a → d .id ≡ id → Stands d a → ReadOpen id a × (readOf a id ≡ d)
 stands-open id a d f s w e (i, h, at) =
     let place : readPlace a id ≡ i = find-only (a .reads) id i (fit-facts a f .reads .count) (w .ids) h (ap (λ (x : Read). x .id) at ∙ e) in
     (record { fits = f; sized = s; waiting = w; known = rw place h }, ap (λ (x : ℕ). readAt a x) place ∙ at)
 
-module _ (id : ℕ) (r : Replica) (o : Open id r) where
+module _ (id : ℕ) (r : Replica) (o : ReadOpen id r) where
   stands-here : Stands (readOf r id) r
   stands-here = (readPlace r id, o .known, refl)
 
@@ -83,7 +84,7 @@ module _ (id : ℕ) (r : Replica) (o : Open id r) where
         (pick-both P (staysOpen (d .answer))
         (readPlace r id, omega (arith, o .known, put-count (r .reads) at (d .read)), put-others (r .reads) at (d .read) (readPlace r id) apart) stands-here)
 
-  reply-stands : (n peer other : ℕ) (leader : Bool) (reply : Tally) → eqb other id ≡ false → Stands (readOf r id) (readReplyStep r n peer other leader reply .replica)
+  reply-stands : (n peer other : ℕ) (leader : Bool) (reply : Tally) → (other ≡ id → ⊥) → Stands (readOf r id) (readReplyStep r n peer other leader reply .replica)
   unfolding readReplyStep
   reply-stands n peer other leader reply e =
       let P : Outcome → Type 0 = λ x. Stands (readOf r id) (x .replica) in
@@ -94,38 +95,33 @@ module _ (id : ℕ) (r : Replica) (o : Open id r) where
       (λ t.
       let h : readPlace r other < r .reads .count = leb-false _ _ t in
       replied-stands (readPlace r other) h
-      (λ z. eqb-false other id e (sym (find-id (r .reads) other h) ∙ (ap (λ (x : ℕ). idAt (r .reads) x) (sym z) ∙ find-id (r .reads) id (o .known)))) _))))
+      (λ z. e (sym (find-id (r .reads) other h) ∙ (ap (λ (x : ℕ). idAt (r .reads) x) (sym z) ∙ find-id (r .reads) id (o .known)))) _))))
 
-  others-stand : (n : ℕ) (c : Call) → step r n c .replica .reads ≡ r .reads → Stands (readOf r id) (step r n c .replica)
-  others-stand n c e =
-      (readPlace r id, rw e (o .known), ap (λ (rs : Reads). getD (rs .reads) (readPlace r id) noRead) e)
-
-  other-stands : (n : ℕ) (c : Call) → repliesTo id c ≡ false → Stands (readOf r id) (step r n c .replica)
-  other-stands n (callOpenRead other count keys) e = open-stands n other count keys
-  other-stands n (callReadReply peer other leader reply) e = reply-stands n peer other leader reply e
-  other-stands n (callPrepare peer trigger ballot) e = others-stand n (callPrepare peer trigger ballot) (other-calls r n (callPrepare peer trigger ballot) refl)
-  other-stands n (callPrepareReply peer m) e = others-stand n (callPrepareReply peer m) (other-calls r n (callPrepareReply peer m) refl)
-  other-stands n (callAccept peer slot ballot b) e = others-stand n (callAccept peer slot ballot b) (other-calls r n (callAccept peer slot ballot b) refl)
-  other-stands n (callAcceptReply peer slot ballot) e = others-stand n (callAcceptReply peer slot ballot) (other-calls r n (callAcceptReply peer slot ballot) refl)
-  other-stands n (callCommitNotice peer ballot bar) e = others-stand n (callCommitNotice peer ballot bar) (other-calls r n (callCommitNotice peer ballot bar) refl)
-  other-stands n (callTimeout source) e = others-stand n (callTimeout source) (other-calls r n (callTimeout source) refl)
-  other-stands n (callLogged d) e = others-stand n (callLogged d) (other-calls r n (callLogged d) refl)
-  other-stands n (callOffer b) e = others-stand n (callOffer b) (other-calls r n (callOffer b) refl)
-  other-stands n (callExecuted slot) e = others-stand n (callExecuted slot) (other-calls r n (callExecuted slot) refl)
+  other-stands : (n : ℕ) (c : Call) → Aside id c → Stands (readOf r id) (step r n c .replica)
+  other-stands n =
+      call-cases (λ (c : Call). Aside id c → Stands (readOf r id) (step r n c .replica))
+      (λ c e a.
+      let same : step r n c .replica .reads ≡ r .reads = other-calls r n c e in
+      (readPlace r id, rw same (o .known), ap (λ (rs : Reads). getD (rs .reads) (readPlace r id) noRead) same))
+      (λ other count keys a. open-stands n other count keys)
+      (λ peer other leader reply a. reply-stands n peer other leader reply (λ z. a peer leader reply (rw z)))
 
   -- whatever the call, a read that stands in the table after it is open
-  after-open : (n : ℕ) (c : Call) (d : Read) → d .id ≡ id → Stands d (step r n c .replica) → Open id (step r n c .replica) × (readOf (step r n c .replica) id ≡ d)
+  after-open : (n : ℕ) (c : Call) (d : Read) → d .id ≡ id → Stands d (step r n c .replica) → ReadOpen id (step r n c .replica) × (readOf (step r n c .replica) id ≡ d)
   after-open n c d e = stands-open id (step r n c .replica) d (fit-stays r n c (o .fits)) (sizes-stay r n c (o .sized)) (waiting-stays r n c (o .sized) (o .waiting)) e
 
 -- A REPLY OF A MEMBER
 
-module _ (id : ℕ) (said : ℕ → Tally) (r : Replica) (o : Open id r) (n : ℕ) (roomy : 3456 ≤ n) where
+module _ (id : ℕ) (said : ℕ → Tally) (r : Replica) (o : ReadOpen id r) (n : ℕ) (roomy : 3456 ≤ n) where
   -- the read as the reply leaves it, where it does not close
   reply-leaves : (m : ℕ) → m < r .sc .group → said m .count ≤ 8 → (d : Read)
       → repliedStep r (readPlace r id) (replyTo (quorum (r .sc)) m false (said m) (readOf r id)) ≡ stayed 0 r (readPlace r id) d
-      → Stands d (step r n (replyOf id said m) .replica)
+      → Stands d (step r n (memberReply id said m) .replica)
   reply-leaves m l f d e =
-      rw (reply-known r n m id (said m) (and-make (le-leb 3456 n roomy) (o .fits)) l f (readPlace r id) refl (o .known) ∙ e) (
+      rw
+      (reply-known r n m id false (said m) 0 (member-in r n m (and-make (le-leb 3456 n roomy) (o .fits)) l) refl f (readPlace r id) refl (o .known) (quorum (r .sc))
+      (replyTo (quorum (r .sc)) m false (said m) (readOf r id)) refl refl
+      ∙ e) (
         readPlace r id,
         omega (arith, o .known, put-count (r .reads) (readPlace r id) d),
         put-here (r .reads) (readPlace r id) d (o .sized .reads) (fit-facts r (o .fits) .reads .count) (o .known),
@@ -134,32 +130,32 @@ module _ (id : ℕ) (said : ℕ → Tally) (r : Replica) (o : Open id r) (n : �
 -- THE THEOREMS
 
 -- what is said of the members stays true over a call that leaves the read as d
-hears-after : (id : ℕ) (said : ℕ → Tally) (r : Replica) (n : ℕ) (c : Call) (d : Read) (ms : List ℕ) → readOf (step r n c .replica) id ≡ d
-    → ((m : ℕ) → m ∈ ms → m < r .sc .group) → ((m : ℕ) → m ∈ ms → said m .count ≤ 8) → Agreed said d ms → Hears id said (step r n c .replica) ms
-hears-after id said r n c d ms e members few agreed =
+replies-after : (id : ℕ) (said : ℕ → Tally) (r : Replica) (n : ℕ) (c : Call) (d : Read) (ms : List ℕ) → readOf (step r n c .replica) id ≡ d
+    → ((m : ℕ) → m ∈ ms → m < r .sc .group) → ((m : ℕ) → m ∈ ms → said m .count ≤ 8) → Agreed said d ms → AgreeingReplies id said (step r n c .replica) ms
+replies-after id said r n c d ms e members few agreed =
     record { members = λ m p. rw (group-stays r n c) (members m p); few = few; with-held = rw e (agreed .with-held); with-each = rw e (agreed .with-each) }
 
 pub knows-heard : KnowsHeard
 knows-heard id said r _ _ o h b no-more = (o, refl)
 knows-heard id said r after ms o h b (aside n c e rest) =
     let next = after-open id r o n c (readOf r id) (find-id (r .reads) id (o .known)) (other-stands id r o n c e) in
-    let hears = hears-after id said r n c (readOf r id) ms (next .1) (h .members) (h .few) (agreed-of id said r ms o h) in
+    let hears = replies-after id said r n c (readOf r id) ms (next .1) (h .members) (h .few) (agreed-of id said r ms o h) in
     let end = knows-heard id said (step r n c .replica) after ms (next .0) hears (rw (next .1, group-stays r n c) b) rest in
     (end .0, rw (next .1, group-stays r n c) at (end .1))
 knows-heard id said r after _ o h b (from-member {ms = ms} n m roomy rest) =
     let q : ℕ = quorum (r .sc) in
     let p : ℕ = readPlace r id in
     let d : Read = readOf r id in
-    let c : Call = replyOf id said m in
+    let c : Call = memberReply id said m in
     let on : (e : Read) → e .id ≡ d .id → Agreed said e ms → countIn (insertAll (e .acks) ms) < q → Stands e (step r n c .replica)
-    → Open id after × (readOf after id ≡ heard q said e ms) =
+    → ReadOpen id after × (readOf after id ≡ readAfter q said e ms) =
     λ e f k l s.
     let next = after-open id r o n c e (f ∙ find-id (r .reads) id (o .known)) s in
-    let hears = hears-after id said r n c e ms (next .1) (λ x u. h .members x (List·Memᴰ·tail u)) (λ x u. h .few x (List·Memᴰ·tail u)) k in
+    let hears = replies-after id said r n c e ms (next .1) (λ x u. h .members x (List·Memᴰ·tail u)) (λ x u. h .few x (List·Memᴰ·tail u)) k in
     let end = knows-heard id said (step r n c .replica) after ms (next .0) hears (rw (next .1, group-stays r n c) l) rest in
     (end .0, rw (next .1, group-stays r n c) at (end .1)) in
     let Leaves : Replied → Type 0 =
-    λ x. ((e : Read) → repliedStep r p x ≡ stayed 0 r p e → Stands e (step r n c .replica)) → Open id after × (readOf after id ≡ heard q said (x .read) ms) in
+    λ x. ((e : Read) → repliedStep r p x ≡ stayed 0 r p e → Stands e (step r n c .replica)) → ReadOpen id after × (readOf after id ≡ readAfter q said (x .read) ms) in
     agreed-cases q said Leaves d m ms (agreed-of id said r (m ∷ ms) o h)
     (λ t k leaves. on d refl k (rw (insert-again (d .acks) m t) at b) (leaves d (replied-again r p d)))
     (λ t k.
@@ -173,30 +169,32 @@ pub same-read : SameRead
 same-read id said r a b k l o h u s ka lb =
     knows-heard id said r a k o h u ka .1
     ∙ (read-any-order (quorum (r .sc)) said (readOf r id) k l (agreed-of id said r k o h) s
-    ∙ sym (knows-heard id said r b l o (hears-within id said r k l h (s .back)) (rw (acknowledged-same id said r k l o h s) at u) lb .1))
+    ∙ sym (knows-heard id said r b l o (replies-within id said r k l h (s .back)) (rw (acknowledged-same id said r k l o h s) at u) lb .1))
 
 -- the group stays, so the quorum does
-calls-group : (id : ℕ) (said : ℕ → Tally) (r after : Replica) (ms : List ℕ) → Calls id said r ms after → after .sc .group ≡ r .sc .group
+calls-group : (id : ℕ) (said : ℕ → Tally) (r after : Replica) (ms : List ℕ) → CallsBetween id said r ms after → after .sc .group ≡ r .sc .group
 calls-group id said r _ _ no-more = refl
 calls-group id said r after ms (aside n c e rest) = calls-group id said (step r n c .replica) after ms rest ∙ group-stays r n c
 calls-group id said r after _ (from-member {ms = ms} n m roomy rest) =
-    calls-group id said (step r n (replyOf id said m) .replica) after ms rest ∙ group-stays r n (replyOf id said m)
+    calls-group id said (step r n (memberReply id said m) .replica) after ms rest ∙ group-stays r n (memberReply id said m)
 
 pub answers-heard : AnswersHeard
 unfolding repliedStep
 answers-heard id said r after ms room m o h below full calls roomy =
     let q : ℕ = quorum (r .sc) in
     let d : Read = readOf r id in
-    let e : Read = heard q said d ms in
-    let front : Hears id said r ms = hears-within id said r (ms ++ (m ∷ [])) ms h (λ x u. Memᴰ·append-left (m ∷ []) u) in
+    let e : Read = readAfter q said d ms in
+    let front : AgreeingReplies id said r ms = replies-within id said r (ms ++ (m ∷ [])) ms h (λ x u. Memᴰ·append-left (m ∷ []) u) in
     let end = knows-heard id said r after ms o front below calls in
     let last : m ∈ (ms ++ (m ∷ [])) = Memᴰ·append-right ms (List·Memᴰ·head refl) in
     let same : quorum (after .sc) ≡ q = ap quorumOf (calls-group id said r after ms calls) in
-    let now = reply-known after room m id (said m) (and-make (le-leb 3456 room roomy) (end .0 .fits)) (rw (calls-group id said r after ms calls) (h .members m last))
-    (h .few m last) (readPlace after id) refl (end .0 .known) in
-    let acks : e .acks ≡ insertAll (d .acks) ms = ap (λ (x : Read). x .acks) (heard-after q said d ms (agreed-of id said r ms o front)) in
+    let in-group : m < after .sc .group = rw (calls-group id said r after ms calls) (h .members m last) in
+    let now = reply-known after room m id false (said m) 0 (member-in after room m (and-make (le-leb 3456 room roomy) (end .0 .fits)) in-group) refl
+    (h .few m last) (readPlace after id) refl (end .0 .known) q (replyTo q m false (said m) e) (sym same)
+    (ap (λ (x : Read). replyTo q m false (said m) x) (sym (end .1))) in
+    let acks : e .acks ≡ insertAll (d .acks) ms = ap (λ (x : Read). x .acks) (after-collected q said d ms (agreed-of id said r ms o front)) in
     let most : q ≤ countIn (insert (e .acks) m) = rw (insertAll-append (d .acks) ms (m ∷ []), ← acks) at full in
-    rw (now, same, end .1, heard-append q said d ms (m ∷ []))
+    rw (now, after-append q said d ms (m ∷ []))
     (agreed-cases q said (λ (x : Replied). repliedStep after (readPlace after id) x .actions ≡ allAnswers (after .sc .leader) (x .read)) e m []
     (agreed-append q said d ms (m ∷ []) (agreed-of id said r (ms ++ (m ∷ [])) o h))
     (λ t k. absurd (omega (arith, ap countIn (insert-again (e .acks) m t), ap countIn acks)))
@@ -208,4 +206,4 @@ same-answers id said r a b k l room m n o h below under full s ka lb roomy leade
     let others : List ℕ = l ++ (n ∷ []) in
     answers-heard id said r a k room m o h below full ka roomy
     ∙ rw (leaders, read-any-order (quorum (r .sc)) said (readOf r id) all others (agreed-of id said r all o h) s)
-    (sym (answers-heard id said r b l room n o (hears-within id said r all others h (s .back)) under (rw (acknowledged-same id said r all others o h s) at full) lb roomy))
+    (sym (answers-heard id said r b l room n o (replies-within id said r all others h (s .back)) under (rw (acknowledged-same id said r all others o h s) at full) lb roomy))

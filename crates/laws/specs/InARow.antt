@@ -1,4 +1,5 @@
--- Replies to an open read, one after the other and up to the quorum: neither order nor repetition makes a difference. The statement is `InAnyOrder` (AnyOrder).
+-- Replies to an open read, one after the other and up to the quorum: neither order nor repetition makes a difference. The statement is `InAnyOrder`
+-- (AnyOrder).
 use mathlib.Core.Path.{_≡_, refl, sym, ap, subst, _∙_}
 use mathlib.Core.Bool.{true, false}
 use mathlib.Core.List.{List, [], _∷_, _++_, append-nil, List·Memᴰ·head, List·Memᴰ·tail}
@@ -7,7 +8,7 @@ use Prim.Native.Nat.{ℕ, _-_, _≤_, _<_}
 use native.Mathlib.Omega.{arith}
 use lib.Dec.{leb}
 use lib.ListN.{length}
-use borrow.Author.Tests.{lt-ltb, le-ltb, le-leb, lt-leb, leb-true, leb-false}
+use borrow.Author.Tests.{lt-ltb, le-leb, leb-true, leb-false}
 use Rattle.base.specs.Pick.{pick-cases, decide, clash, same?, and-both, and-make}
 use Rattle.base.specs.Among.{_∈_, SameMembers, All}
 use Rattle.members.specs.Sets.{countIn}
@@ -17,44 +18,33 @@ use Rattle.tally.specs.declared.Tally.{Tally}
 use Rattle.tally.specs.declared.Read.{Read}
 use Rattle.tally.specs.declared.Reads.{Reads}
 use Rattle.tally.specs.declared.Replied.{Replied}
-use Rattle.tally.specs.Open.{closeRead, putRead, stays, quorumCloses, replyTo}
+use Rattle.tally.specs.Open.{closeRead, putRead, stays, replyTo}
 use Rattle.tally.specs.ReadLaws.{readAt as tableAt, idAt, Distinct, find-id, find-only, find-nowhere, close-others, close-last, close-count, close-gone, put-count, put-length, put-others, put-here, put-distinct, put-again, put-back}
-use Rattle.tally.specs.ReadOrder.{heard, Agreed, joinedBy, agreed-cases, heard-full, read-any-order}
+use Rattle.tally.specs.ReadOrder.{readAfter, Agreed, joinedBy, agreed-cases, after-full, read-any-order}
 use Rattle.actions.specs.Actions.{Act}
 use Rattle.decide.specs.Scalars.{quorum}
 use Rattle.replica.specs.declared.Replica.{Replica}
-use Rattle.replica.specs.Record.{Outcome, kept}
+use Rattle.replica.specs.Record.{Outcome}
 use Rattle.replica.specs.Fit.{fit, ready}
+use Rattle.replica.specs.Admit.{fromMember}
 use Rattle.replica.specs.Quorumread.{withReads, repliedStep, readReplyStep}
+use Rattle.replica.specs.ReadCallLaws.{reply-known, reply-unknown}
 use Rattle.laws.specs.OfFit.{fit-facts}
-use Rattle.laws.specs.WaysAdded.{readPlace, readAt, closed, stayed}
-use Rattle.laws.specs.AnyOrder.{readOf, Open, Hears, acknowledgedWith, replyOf, replied, repliedActs, repliedAnswers, SameInUse, InAnyOrder, allAnswers}
+use Rattle.laws.specs.WaysAdded.{readPlace, readAt, stayed}
+use Rattle.laws.specs.AnyOrder.{readOf, ReadOpen, AgreeingReplies, acknowledgedWith, memberReply, replied, repliedActs, repliedAnswers, SameInUse, InAnyOrder, allAnswers}
 use Rattle.laws.specs.Theorems.{fit-stays}
 
 -- ONE REPLY
 
-module _ (r : Replica) (n m id : ℕ) (reply : Tally) (on : ready r n ≡ true) (member : m < r .sc .group) (few : reply .count ≤ 8) where
-  pub reply-known : (p : ℕ) → readPlace r id ≡ p → p < r .reads .count → readReplyStep r n m id false reply ≡ repliedStep r p (replyTo (quorum (r .sc)) m false reply (readAt r p))
-  unfolding readReplyStep
-  reply-known p e h = rw (on, lt-ltb m (r .sc .group) member, le-ltb 8 (reply .count) few, e, lt-leb (r .reads .count) p h)
+-- a member of the group is let in
+pub member-in : (r : Replica) (n m : ℕ) → ready r n ≡ true → m < r .sc .group → 0 ≡ fromMember r n m
+unfolding fromMember
+member-in r n m on l = rw (on, lt-ltb m (r .sc .group) l)
 
-  reply-unknown : r .reads .count ≤ readPlace r id → readReplyStep r n m id false reply ≡ kept 0 r
-  unfolding readReplyStep
-  reply-unknown h = rw (on, lt-ltb m (r .sc .group) member, le-ltb 8 (reply .count) few, le-leb (r .reads .count) (readPlace r id) h)
-
--- a member that was acknowledged; one that is
-module _ (r : Replica) (p : ℕ) (d : Read) where
-  pub replied-again : repliedStep r p (stays 0 d) ≡ stayed 0 r p d
-  unfolding repliedStep
-  replied-again = refl
-
-  replied-less : (q : ℕ) → leb q (countIn (d .acks)) ≡ false → repliedStep r p (quorumCloses q d) ≡ stayed 0 r p d
-  unfolding repliedStep
-  replied-less q e = rw e
-
-  pub replied-full : (q : ℕ) → leb q (countIn (d .acks)) ≡ true → repliedStep r p (quorumCloses q d) ≡ closed r p d (d .tally .count)
-  unfolding repliedStep
-  replied-full q e = rw e
+-- the read stays open
+pub replied-again : (r : Replica) (p : ℕ) (d : Read) → repliedStep r p (stays 0 d) ≡ stayed 0 r p d
+unfolding repliedStep
+replied-again r p d = refl
 
 same-refl : (a : Replica) → SameInUse a a
 same-refl a = record { sc = refl; bars = refl; window = refl; keys = refl; count = refl; reads = λ i h. refl }
@@ -95,7 +85,7 @@ module _ (room id : ℕ) (said : ℕ → Tally) (r : Replica) (on : ready r room
   ignored [] members few = record { replica = refl; actions = refl; zeros = tt }
   ignored (m ∷ ms) members few =
       let rest = ignored ms (λ x o. members x (List·Memᴰ·tail o)) (λ x o. few x (List·Memᴰ·tail o)) in
-      rw (reply-unknown r room m id (said m) on (members m (List·Memᴰ·head refl)) (few m (List·Memᴰ·head refl)) gone)
+      rw (reply-unknown r room m id false (said m) 0 (member-in r room m on (members m (List·Memᴰ·head refl))) refl (few m (List·Memᴰ·head refl)) (readPlace r id) refl gone)
       (record { replica = rest .replica; actions = rest .actions; zeros = (refl, rest .zeros) })
 
 -- a replica with a read open at place p, and the same with that read as d
@@ -143,8 +133,9 @@ module _ (room id : ℕ) (said : ℕ → Tally) (r : Replica) (p : ℕ) where
     one-reply : (d : Read) (m : ℕ) → fit (with d) ≡ true → d .id ≡ id → m < r .sc .group → said m .count ≤ 8
         → readReplyStep (with d) room m id false (said m) ≡ repliedStep (with d) p (replyTo (quorum (r .sc)) m false (said m) d)
     one-reply d m f e l q =
-        reply-known (with d) room m id (said m) (on (with d) f) l q p (found d e) (omega (arith, base .below, put-count (r .reads) p d))
-        ∙ ap (λ (x : Read). repliedStep (with d) p (replyTo (quorum (r .sc)) m false (said m) x)) (put-here (r .reads) p d (base .long) (base .table) (base .below))
+        reply-known (with d) room m id false (said m) 0 (member-in (with d) room m (on (with d) f) l) refl q p (sym (found d e))
+        (omega (arith, base .below, put-count (r .reads) p d)) (quorum (r .sc)) (replyTo (quorum (r .sc)) m false (said m) d) refl
+        (ap (λ (x : Read). replyTo (quorum (r .sc)) m false (said m) x) (sym (put-here (r .reads) p d (base .long) (base .table) (base .below))))
 
     -- the read has closed: what it was leaves no trace in a place that is in use
     abbrev shutAt : Read → Replica
@@ -194,12 +185,12 @@ module _ (room id : ℕ) (said : ℕ → Tally) (r : Replica) (p : ℕ) where
     Then d ms o =
         let after : Outcome = repliedStep (with d) p o in
         fit (after .replica) ≡ true
-        → Ends (heard (quorum (r .sc)) said (o .read) ms) (replied room id said (after .replica) ms) (after .actions ++ repliedActs room id said (after .replica) ms)
+        → Ends (readAfter (quorum (r .sc)) said (o .read) ms) (replied room id said (after .replica) ms) (after .actions ++ repliedActs room id said (after .replica) ms)
         (after .answer ∷ repliedAnswers room id said (after .replica) ms)
 
     -- it stays open, as e
     then-open : (d e : Read) (ms : List ℕ)
-        → (fit (with e) ≡ true → Ends (heard (quorum (r .sc)) said e ms) (replied room id said (with e) ms) (repliedActs room id said (with e) ms) (repliedAnswers room id said (with e) ms))
+        → (fit (with e) ≡ true → Ends (readAfter (quorum (r .sc)) said e ms) (replied room id said (with e) ms) (repliedActs room id said (with e) ms) (repliedAnswers room id said (with e) ms))
         → Then d ms (stays 0 e)
     then-open d e ms rest =
         rw (replied-again (with d) p e, with-with d e) (λ f. record { done = (refl, rest f .done); still = rest f .still; shut = rest f .shut })
@@ -211,7 +202,7 @@ module _ (room id : ℕ) (said : ℕ → Tally) (r : Replica) (p : ℕ) where
     unfolding repliedStep
     then-shut d e ms named agreed members few up-to t f =
         let rest = ignored room id said (shutAt d) (on (shutAt d) f) (shut-gone d named) ms members few in
-        rw (heard-full (quorum (r .sc)) said e ms agreed (leb-true _ _ t) up-to)
+        rw (after-full (quorum (r .sc)) said e ms agreed (leb-true _ _ t) up-to)
         (record {
           done = (refl, rest .zeros);
           still = λ z. absurd (clash t z);
@@ -219,7 +210,7 @@ module _ (room id : ℕ) (said : ℕ → Tally) (r : Replica) (p : ℕ) where
         })
 
     ends : (d : Read) (ms : List ℕ) → Stage d ms
-        → Ends (heard (quorum (r .sc)) said d ms) (replied room id said (with d) ms) (repliedActs room id said (with d) ms) (repliedAnswers room id said (with d) ms)
+        → Ends (readAfter (quorum (r .sc)) said d ms) (replied room id said (with d) ms) (repliedActs room id said (with d) ms) (repliedAnswers room id said (with d) ms)
     ends d [] s = record { done = tt; still = λ e. (refl, refl); shut = λ e. absurd (omega (arith, leb-true, s .waits)) }
     ends d (m ∷ ms) s =
         let first : readReplyStep (with d) room m id false (said m) ≡ repliedStep (with d) p (replyTo (quorum (r .sc)) m false (said m) d) =
@@ -235,12 +226,12 @@ module _ (room id : ℕ) (said : ℕ → Tally) (r : Replica) (p : ℕ) where
         pick-cases (Then d ms) (leb (quorum (r .sc)) (countIn (e .acks))) (then-shut d e ms (s .named) k members few (s .up-to))
         (λ z. then-open d e ms
         (λ f. ends e ms (record { fits = f; named = s .named; agreed = k; members = members; few = few; waits = leb-false _ _ z; up-to = s .up-to }))))
-        (rw first at (fit-stays (with d) room (replyOf id said m) (s .fits))))
+        (rw first at (fit-stays (with d) room (memberReply id said m) (s .fits))))
 
 -- THE THEOREM
 
 -- what is said of the replies, of the read alone: a fit replica's tally has its places, its set is a group's
-pub agreed-of : (id : ℕ) (said : ℕ → Tally) (r : Replica) (ms : List ℕ) → Open id r → Hears id said r ms → Agreed said (readOf r id) ms
+pub agreed-of : (id : ℕ) (said : ℕ → Tally) (r : Replica) (ms : List ℕ) → ReadOpen id r → AgreeingReplies id said r ms → Agreed said (readOf r id) ms
 agreed-of id said r ms o h =
     let fits = fit-facts r (o .fits) in
     let nine = group-bounds (r .sc .group) (fits .numbers .size) .1 in
@@ -254,8 +245,8 @@ agreed-of id said r ms o h =
     }
 
 -- fewer of them
-pub hears-within : (id : ℕ) (said : ℕ → Tally) (r : Replica) (k l : List ℕ) → Hears id said r k → ((m : ℕ) → m ∈ l → m ∈ k) → Hears id said r l
-hears-within id said r k l h w =
+pub replies-within : (id : ℕ) (said : ℕ → Tally) (r : Replica) (k l : List ℕ) → AgreeingReplies id said r k → ((m : ℕ) → m ∈ l → m ∈ k) → AgreeingReplies id said r l
+replies-within id said r k l h w =
     record {
       members = λ m p. h .members m (w m p);
       few = λ m p. h .few m (w m p);
@@ -263,14 +254,14 @@ hears-within id said r k l h w =
       with-each = λ m n p q. h .with-each m n (w m p) (w n q);
     }
 
-pub acknowledged-same : (id : ℕ) (said : ℕ → Tally) (r : Replica) (k l : List ℕ) → Open id r → Hears id said r k → SameMembers k l
+pub acknowledged-same : (id : ℕ) (said : ℕ → Tally) (r : Replica) (k l : List ℕ) → ReadOpen id r → AgreeingReplies id said r k → SameMembers k l
     → acknowledgedWith id r k ≡ acknowledgedWith id r l
 acknowledged-same id said r k l o h s =
     let g = agreed-of id said r k o h in ap countIn (insertAll-same (readOf r id .acks) k l (g .set) (g .members) s)
 
-module _ (room id : ℕ) (said : ℕ → Tally) (r : Replica) (roomy : 3456 ≤ room) (o : Open id r) where
-  ends-of : (ms : List ℕ) → Hears id said r ms → acknowledgedWith id r ms ≤ quorum (r .sc)
-      → Ends room id said r (readPlace r id) (heard (quorum (r .sc)) said (readOf r id) ms) (replied room id said r ms) (repliedActs room id said r ms)
+module _ (room id : ℕ) (said : ℕ → Tally) (r : Replica) (roomy : 3456 ≤ room) (o : ReadOpen id r) where
+  ends-of : (ms : List ℕ) → AgreeingReplies id said r ms → acknowledgedWith id r ms ≤ quorum (r .sc)
+      → Ends room id said r (readPlace r id) (readAfter (quorum (r .sc)) said (readOf r id) ms) (replied room id said r ms) (repliedActs room id said r ms)
       (repliedAnswers room id said r ms)
   ends-of ms h u =
       let p : ℕ = readPlace r id in
@@ -280,7 +271,7 @@ module _ (room id : ℕ) (said : ℕ → Tally) (r : Replica) (roomy : 3456 ≤ 
       record { below = o .known; table = fit-facts r (o .fits) .reads .count; long = o .sized .reads; ids = o .waiting .ids; here = named; roomy = roomy } in
       let same : withReads r (putRead (r .reads) p d) ≡ r = ap (λ (rs : Reads). withReads r rs) (put-back (r .reads) p) in
       subst
-      (λ (x : Replica). Ends room id said r p (heard (quorum (r .sc)) said d ms) (replied room id said x ms) (repliedActs room id said x ms) (repliedAnswers room id said x ms))
+      (λ (x : Replica). Ends room id said r p (readAfter (quorum (r .sc)) said d ms) (replied room id said x ms) (repliedActs room id said x ms) (repliedAnswers room id said x ms))
       same
       (ends room id said r p base d ms
       (record {
@@ -297,16 +288,16 @@ pub in-any-order : InAnyOrder
 in-any-order room id said r k l roomy o h u s =
     let q : ℕ = quorum (r .sc) in
     let one = ends-of room id said r roomy o k h u in
-    let two = ends-of room id said r roomy o l (hears-within id said r k l h (s .back)) (rw (acknowledged-same id said r k l o h s) at u) in
-    let same : heard q said (readOf r id) k ≡ heard q said (readOf r id) l = read-any-order q said (readOf r id) k l (agreed-of id said r k o h) s in
+    let two = ends-of room id said r roomy o l (replies-within id said r k l h (s .back)) (rw (acknowledged-same id said r k l o h s) at u) in
+    let same : readAfter q said (readOf r id) k ≡ readAfter q said (readOf r id) l = read-any-order q said (readOf r id) k l (agreed-of id said r k o h) s in
     ⊎-elim
-    (λ (t : leb q (countIn (heard q said (readOf r id) k .acks)) ≡ true).
+    (λ (t : leb q (countIn (readAfter q said (readOf r id) k .acks)) ≡ true).
     let x = one .shut t in
     let y = two .shut (rw same at t) in
     record { replica = same-trans _ _ _ (x .0) (same-sym _ _ (y .0)); actions = x .1 ∙ rw same (sym (y .1)); answers = one .done })
-    (λ (t : leb q (countIn (heard q said (readOf r id) k .acks)) ≡ false).
+    (λ (t : leb q (countIn (readAfter q said (readOf r id) k .acks)) ≡ false).
     let x = one .still t in
     let y = two .still (rw same at t) in
     let z : replied room id said r k ≡ replied room id said r l = x .0 ∙ rw same (sym (y .0)) in
     record { replica = rw z (same-refl _); actions = x .1 ∙ sym (y .1); answers = one .done })
-    (decide (leb q (countIn (heard q said (readOf r id) k .acks))))
+    (decide (leb q (countIn (readAfter q said (readOf r id) k .acks))))

@@ -58,6 +58,21 @@ ofReads (callExecuted slot) = false
 ofReads (callOpenRead id count keys) = true
 ofReads (callReadReply peer id fromLeader reply) = true
 
+-- a call is one of these two, or another
+pub call-cases : (P : Call → Type 0) → ((c : Call) → ofReads c ≡ false → P c) → ((id count : ℕ) (keys : List ℕ) → P (callOpenRead id count keys))
+    → ((peer id : ℕ) (leader : Bool) (reply : Tally) → P (callReadReply peer id leader reply)) → (c : Call) → P c
+call-cases P other opens replies (callPrepare peer trigger ballot) = other (callPrepare peer trigger ballot) refl
+call-cases P other opens replies (callPrepareReply peer m) = other (callPrepareReply peer m) refl
+call-cases P other opens replies (callAccept peer slot ballot b) = other (callAccept peer slot ballot b) refl
+call-cases P other opens replies (callAcceptReply peer slot ballot) = other (callAcceptReply peer slot ballot) refl
+call-cases P other opens replies (callCommitNotice peer ballot bar) = other (callCommitNotice peer ballot bar) refl
+call-cases P other opens replies (callTimeout source) = other (callTimeout source) refl
+call-cases P other opens replies (callLogged d) = other (callLogged d) refl
+call-cases P other opens replies (callOffer b) = other (callOffer b) refl
+call-cases P other opens replies (callExecuted slot) = other (callExecuted slot) refl
+call-cases P other opens replies (callOpenRead id count keys) = opens id count keys
+call-cases P other opens replies (callReadReply peer id leader reply) = replies peer id leader reply
+
 -- ── every other call leaves the table as it is ──
 module _ (r : Replica) (n : ℕ) where
   abbrev Same : Outcome → Type 0
@@ -180,14 +195,5 @@ module _ (r : Replica) (n : ℕ) (sized : Sized r) (w : Waiting r) where
       (pick-cases P (leb (r .reads .count) (readPlace r id)) (λ t. w) (λ t. replied-waiting peer leader reply (readPlace r id) (leb-false _ _ t)))))
 
 pub waiting-stays : (r : Replica) (n : ℕ) (c : Call) → Sized r → Waiting r → Waiting (step r n c .replica)
-waiting-stays r n (callOpenRead id count keys) s w = open-waiting r n s w id count keys
-waiting-stays r n (callReadReply peer id leader reply) s w = reply-waiting r n s w peer id leader reply
-waiting-stays r n (callPrepare peer trigger ballot) s w = others-waiting r n (callPrepare peer trigger ballot) refl w
-waiting-stays r n (callPrepareReply peer m) s w = others-waiting r n (callPrepareReply peer m) refl w
-waiting-stays r n (callAccept peer slot ballot b) s w = others-waiting r n (callAccept peer slot ballot b) refl w
-waiting-stays r n (callAcceptReply peer slot ballot) s w = others-waiting r n (callAcceptReply peer slot ballot) refl w
-waiting-stays r n (callCommitNotice peer ballot bar) s w = others-waiting r n (callCommitNotice peer ballot bar) refl w
-waiting-stays r n (callTimeout source) s w = others-waiting r n (callTimeout source) refl w
-waiting-stays r n (callLogged d) s w = others-waiting r n (callLogged d) refl w
-waiting-stays r n (callOffer b) s w = others-waiting r n (callOffer b) refl w
-waiting-stays r n (callExecuted slot) s w = others-waiting r n (callExecuted slot) refl w
+waiting-stays r n c s w =
+    call-cases (λ (x : Call). Waiting (step r n x .replica)) (λ x e. others-waiting r n x e w) (open-waiting r n s w) (reply-waiting r n s w) c

@@ -18,7 +18,7 @@ use Rattle.tally.specs.declared.Best.{Best}
 use Rattle.tally.specs.declared.Tally.{Tally}
 use Rattle.tally.specs.Merge.{mergeKey, noBest, bestAt, agreeAt, conflictAt, mergeAt, mergeUpTo, merge}
 use Rattle.tally.specs.Turns.{Merging, merging-end}
-use Rattle.tally.specs.Larger.{more, Agree, agree-sym, agree-self, agree-merges, merges-agree, no-clash, merged-more, more-self, more-commutes, more-associates, more-agrees, most, most-same}
+use Rattle.tally.specs.Larger.{moreKnown, Agree, agree-sym, agree-self, agree-merges, merges-agree, no-clash, merged-more, more-self, more-commutes, more-associates, more-agrees, mostKnown, most-same}
 use Rattle.tally.specs.Laws.{merged-at, kept-at, merge-joined}
 
 -- WHAT IS SAID
@@ -48,8 +48,8 @@ mergeAnswers held [] = []
 mergeAnswers held (reply ∷ replies) = merge held reply .answer ∷ mergeAnswers (merge held reply .tally) replies
 
 -- any order, any repetition: lists with the same members leave the same tally, its unused places too
-abbrev pub AnyOrder : Type 0
-AnyOrder = (held : Tally) (k l : List Tally) → Eight held → Consistent held k → SameMembers k l → mergeAll held k ≡ mergeAll held l
+abbrev pub TallyAnyOrder : Type 0
+TallyAnyOrder = (held : Tally) (k l : List Tally) → Eight held → Consistent held k → SameMembers k l → mergeAll held k ≡ mergeAll held l
 
 -- and each reply is answered 0: "no conflict then"
 abbrev pub NoConflict : Type 0
@@ -67,7 +67,7 @@ abbrev pub joined : Tally → Tally → Tally
 joined held reply = mergeUpTo held reply (held .count)
 
 -- of each key the larger of the two
-pub joined-at : (held reply : Tally) → Eight held → (i : ℕ) → i < held .count → bestAt (joined held reply) i ≡ more (bestAt held i) (bestAt reply i)
+pub joined-at : (held reply : Tally) → Eight held → (i : ℕ) → i < held .count → bestAt (joined held reply) i ≡ moreKnown (bestAt held i) (bestAt reply i)
 joined-at held reply w i h =
     merged-at held reply (held .count) i h (omega (arith, w .few, w .places)) ∙ merged-more (bestAt held i) (bestAt reply i)
 
@@ -149,19 +149,19 @@ merge-associates a b c v w p q r =
     (by-count (λ (i : ℕ). bestAt (joined (joined a b) c) i ≡ bestAt (joined a (joined b c)) i) (a .count)
     (λ i h.
     joined-at (joined a b) c (joined-eight a b v) i h
-    ∙ (ap (λ (x : Best). more x (bestAt c i)) (joined-at a b v i h)
+    ∙ (ap (λ (x : Best). moreKnown x (bestAt c i)) (joined-at a b v i h)
     ∙ (more-associates (bestAt a i) (bestAt b i) (bestAt c i)
-    ∙ sym (joined-at a (joined b c) v i h ∙ ap (λ (x : Best). more (bestAt a i) x) (joined-at b c w i (omega (arith, p .even)))))))
+    ∙ sym (joined-at a (joined b c) v i h ∙ ap (λ (x : Best). moreKnown (bestAt a i) x) (joined-at b c w i (omega (arith, p .even)))))))
     (λ i h. kept-at (joined a b) c (a .count) i h ∙ (kept-at a b (a .count) i h ∙ sym (kept-at a (joined b c) (a .count) i h)))) in
     rw (agreeing-merge a b (v .few) p, agreeing-merge b c (w .few) q, agreeing-merge (joined a b) c (v .few) left, agreeing-merge a (joined b c) (v .few) right, same)
 
 -- MANY THAT AGREE
 
 -- what all of them leave: of each key the largest that was held or told; the unused places as they were
-pub record Largest (held : Tally) (replies : List Tally) (after : Tally) : Type 0 where
+pub record MostKnown (held : Tally) (replies : List Tally) (after : Tally) : Type 0 where
   pub even : after .count ≡ held .count
   pub places : length (after .bests) ≡ length (held .bests)
-  pub each : (i : ℕ) → i < held .count → bestAt after i ≡ most (bestAt held i) (map (λ (t : Tally). bestAt t i) replies)
+  pub each : (i : ℕ) → i < held .count → bestAt after i ≡ mostKnown (bestAt held i) (map (λ (t : Tally). bestAt t i) replies)
   pub past : (i : ℕ) → held .count ≤ i → bestAt after i ≡ bestAt held i
 
 -- one is merged, and the rest still agree
@@ -174,16 +174,16 @@ consistent-next held reply replies w g =
       with-each = λ s t m n. g .with-each s t (List·Memᴰ·tail m) (List·Memᴰ·tail n);
     }
 
-pub all-largest : (held : Tally) (replies : List Tally) → Eight held → Consistent held replies → Largest held replies (mergeAll held replies)
+pub all-largest : (held : Tally) (replies : List Tally) → Eight held → Consistent held replies → MostKnown held replies (mergeAll held replies)
 all-largest held [] w g = record { even = refl; places = refl; each = λ i h. refl; past = λ i h. refl }
 all-largest held (reply ∷ replies) w g =
-    let next : Largest (joined held reply) replies (mergeAll (joined held reply) replies) =
+    let next : MostKnown (joined held reply) replies (mergeAll (joined held reply) replies) =
     all-largest (joined held reply) replies (joined-eight held reply w) (consistent-next held reply replies w g) in
     rw (agreeing-merge held reply (w .few) (g .with-held reply (List·Memᴰ·head refl)))
     (record {
       even = next .even;
       places = next .places ∙ length-over (mergeAt reply) noBest 0 (held .count) (held .bests);
-      each = λ i h. next .each i h ∙ ap (λ (x : Best). most x (map (λ (t : Tally). bestAt t i) replies)) (joined-at held reply w i h);
+      each = λ i h. next .each i h ∙ ap (λ (x : Best). mostKnown x (map (λ (t : Tally). bestAt t i) replies)) (joined-at held reply w i h);
       past = λ i h. next .past i h ∙ kept-at held reply (held .count) i h;
     })
 
@@ -225,10 +225,10 @@ consistent-same : (held : Tally) (k l : List Tally) → Consistent held k → Sa
 consistent-same held k l g s =
     record { with-held = λ t m. g .with-held t (s .back t m); with-each = λ t u m n. g .with-each t u (s .back t m) (s .back u n) }
 
-pub any-order : AnyOrder
+pub any-order : TallyAnyOrder
 any-order held k l w g s =
-    let a : Largest held k (mergeAll held k) = all-largest held k w g in
-    let b : Largest held l (mergeAll held l) = all-largest held l w (consistent-same held k l g s) in
+    let a : MostKnown held k (mergeAll held k) = all-largest held k w g in
+    let b : MostKnown held l (mergeAll held l) = all-largest held l w (consistent-same held k l g s) in
     same-tally (mergeAll held k) (mergeAll held l) (a .even ∙ sym (b .even)) (a .places ∙ sym (b .places))
     (by-count (λ (i : ℕ). bestAt (mergeAll held k) i ≡ bestAt (mergeAll held l) i) (held .count)
     (λ i h.

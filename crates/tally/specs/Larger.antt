@@ -26,16 +26,16 @@ level (Slot s) = suc (s + s)
 level (Value h) = suc (suc (h .slot + h .slot))
 
 -- the larger of two; of two at one level the first
-abbrev pub more : Best → Best → Best
-more a b = pick (ltb (level a) (level b)) b a
+abbrev pub moreKnown : Best → Best → Best
+moreKnown a b = pick (ltb (level a) (level b)) b a
 
-pub more-right : (a b : Best) → level a < level b → more a b ≡ b
+pub more-right : (a b : Best) → level a < level b → moreKnown a b ≡ b
 more-right a b h = rw (lt-ltb (level a) (level b) h)
 
-pub more-left : (a b : Best) → level b ≤ level a → more a b ≡ a
+pub more-left : (a b : Best) → level b ≤ level a → moreKnown a b ≡ a
 more-left a b h = rw (le-ltb (level a) (level b) h)
 
-pub more-level : (a b : Best) → level (more a b) ≡ larger (level a) (level b)
+pub more-level : (a b : Best) → level (moreKnown a b) ≡ larger (level a) (level b)
 more-level a b = sym (pick-through level (ltb (level a) (level b)) (λ t. refl) (λ t. refl))
 
 -- A MERGE IS THE LARGER OF TWO
@@ -43,13 +43,13 @@ more-level a b = sym (pick-through level (ltb (level a) (level b)) (λ t. refl) 
 -- what is told takes the place of what is held exactly where it is more
 taken-or-kept : (held told : Best) (taken : Bool) (else : MergedKey) → mergedBest held else ≡ held
     → (taken ≡ true → level held < level told) → (taken ≡ false → level told ≤ level held)
-    → mergedBest held (pick taken (Into told) else) ≡ more held told
+    → mergedBest held (pick taken (Into told) else) ≡ moreKnown held told
 taken-or-kept held told taken else stays above below =
-    pick-cases (λ (m : MergedKey). mergedBest held m ≡ more held told) taken (λ e. sym (more-right held told (above e)))
+    pick-cases (λ (m : MergedKey). mergedBest held m ≡ moreKnown held told) taken (λ e. sym (more-right held told (above e)))
     (λ e. stays ∙ sym (more-left held told (below e)))
 
 -- whatever is held and told, a conflict too
-pub merged-more : (held reply : Best) → mergedBest held (mergeKey held reply) ≡ more held reply
+pub merged-more : (held reply : Best) → mergedBest held (mergeKey held reply) ≡ moreKnown held reply
 merged-more held Nothing = sym (more-left held Nothing (omega arith))
 merged-more Nothing (Slot s) = sym (more-right Nothing (Slot s) (omega arith))
 merged-more (Slot t) (Slot s) =
@@ -137,26 +137,26 @@ agree-fixed (Value k) (Value h) g e =
     rw (at, one)
 
 -- of one twice it is the one; of two that agree it is the same whichever comes first; of three, whichever two are taken first
-pub more-self : (a : Best) → more a a ≡ a
+pub more-self : (a : Best) → moreKnown a a ≡ a
 more-self a = pick-same (ltb (level a) (level a)) a
 
-pub more-commutes : (a b : Best) → Agree a b → more a b ≡ more b a
+pub more-commutes : (a b : Best) → Agree a b → moreKnown a b ≡ moreKnown b a
 more-commutes a b g =
-    pick-cases (λ (x : Best). x ≡ more b a) (ltb (level a) (level b)) (λ t. sym (more-left b a (omega (arith, tests))))
+    pick-cases (λ (x : Best). x ≡ moreKnown b a) (ltb (level a) (level b)) (λ t. sym (more-left b a (omega (arith, tests))))
     (λ t. pick-cases (λ (x : Best). a ≡ x) (ltb (level b) (level a)) (λ u. refl) (λ u. agree-fixed a b g (omega (arith, tests))))
 
-pub more-associates : (a b c : Best) → more (more a b) c ≡ more a (more b c)
+pub more-associates : (a b c : Best) → moreKnown (moreKnown a b) c ≡ moreKnown a (moreKnown b c)
 more-associates a b c =
-    pick-cases (λ (x : Best). more x c ≡ more a (more b c)) (ltb (level a) (level b))
-    (λ t. sym (more-right a (more b c) (omega (arith, tests, more-level b c, larger-left (level b) (level c)))))
-    (λ t. pick-cases (λ (x : Best). more a c ≡ more a x) (ltb (level b) (level c)) (λ u. refl)
+    pick-cases (λ (x : Best). moreKnown x c ≡ moreKnown a (moreKnown b c)) (ltb (level a) (level b))
+    (λ t. sym (more-right a (moreKnown b c) (omega (arith, tests, more-level b c, larger-left (level b) (level c)))))
+    (λ t. pick-cases (λ (x : Best). moreKnown a c ≡ moreKnown a x) (ltb (level b) (level c)) (λ u. refl)
     (λ u. more-left a c (omega (arith, tests)) ∙ sym (more-left a b (omega (arith, tests)))))
 
-pub more-agrees : (a b c : Best) → Agree a c → Agree b c → Agree (more a b) c
+pub more-agrees : (a b c : Best) → Agree a c → Agree b c → Agree (moreKnown a b) c
 more-agrees a b c p q = pick-both (λ (x : Best). Agree x c) (ltb (level a) (level b)) q p
 
 -- THE THREE LAWS. 02: "merging is commutative, associative and idempotent", since where two agree it is the larger of the two in one order
-pub key-larger : (a b : Best) → Agree a b → mergeKey a b ≡ Into (more a b)
+pub key-larger : (a b : Best) → Agree a b → mergeKey a b ≡ Into (moreKnown a b)
 key-larger a b g = merged-into a (mergeKey a b) (agree-merges a b g) ∙ ap (λ (x : Best). Into x) (merged-more a b)
 
 pub key-idempotent : (a : Best) → mergeKey a a ≡ Into a
@@ -167,12 +167,12 @@ key-commutes a b g = key-larger a b g ∙ (ap (λ (x : Best). Into x) (more-comm
 
 pub key-associates : (a b c x y : Best) → Agree a b → Agree b c → Agree a c → mergeKey a b ≡ Into x → mergeKey b c ≡ Into y → mergeKey x c ≡ mergeKey a y
 key-associates a b c x y p q r e f =
-    let left : x ≡ more a b = ap (mergedBest a) (sym e ∙ key-larger a b p) in
-    let right : y ≡ more b c = ap (mergedBest b) (sym f ∙ key-larger b c q) in
+    let left : x ≡ moreKnown a b = ap (mergedBest a) (sym e ∙ key-larger a b p) in
+    let right : y ≡ moreKnown b c = ap (mergedBest b) (sym f ∙ key-larger b c q) in
     rw (left, right)
-    (key-larger (more a b) c (more-agrees a b c r q)
+    (key-larger (moreKnown a b) c (more-agrees a b c r q)
     ∙ (ap (λ (z : Best). Into z) (more-associates a b c)
-    ∙ sym (key-larger a (more b c) (agree-sym (more b c) a (more-agrees b c a (agree-sym a b p) (agree-sym a c r))))))
+    ∙ sym (key-larger a (moreKnown b c) (agree-sym (moreKnown b c) a (more-agrees b c a (agree-sym a b p) (agree-sym a c r))))))
 
 -- and the condition is needed: where both orders leave the same, the two agree
 pub commutes-agree : (a b : Best) → mergedBest a (mergeKey a b) ≡ mergedBest b (mergeKey b a) → Agree a b
@@ -184,37 +184,37 @@ commutes-agree a b g slot v w e f =
 -- MANY ANSWERS
 
 -- the larger of what is held and of each that is told, one after the other
-abbrev pub most : Best → List Best → Best
-most held [] = held
-most held (told ∷ l) = most (more held told) l
+abbrev pub mostKnown : Best → List Best → Best
+mostKnown held [] = held
+mostKnown held (told ∷ l) = mostKnown (moreKnown held told) l
 
 -- it is one of them
-pub most-among : (held : Best) (l : List Best) → most held l ∈ (held ∷ l)
+pub most-among : (held : Best) (l : List Best) → mostKnown held l ∈ (held ∷ l)
 most-among held [] = List·Memᴰ·head refl
-most-among held (told ∷ l) = go (most-among (more held told) l)
+most-among held (told ∷ l) = go (most-among (moreKnown held told) l)
   where
-    go : most (more held told) l ∈ (more held told ∷ l) → most (more held told) l ∈ (held ∷ (told ∷ l))
+    go : mostKnown (moreKnown held told) l ∈ (moreKnown held told ∷ l) → mostKnown (moreKnown held told) l ∈ (held ∷ (told ∷ l))
     go (List·Memᴰ·head e) =
-        pick-both (λ (x : Best). most (more held told) l ≡ x → most (more held told) l ∈ (held ∷ (told ∷ l))) (ltb (level held) (level told))
+        pick-both (λ (x : Best). mostKnown (moreKnown held told) l ≡ x → mostKnown (moreKnown held told) l ∈ (held ∷ (told ∷ l))) (ltb (level held) (level told))
         (λ f. List·Memᴰ·tail (List·Memᴰ·head f)) (λ f. List·Memᴰ·head f) e
     go (List·Memᴰ·tail m) = List·Memᴰ·tail (List·Memᴰ·tail m)
 
 -- and none is above it
-pub most-above : (held : Best) (l : List Best) (b : Best) → b ∈ (held ∷ l) → level b ≤ level (most held l)
+pub most-above : (held : Best) (l : List Best) (b : Best) → b ∈ (held ∷ l) → level b ≤ level (mostKnown held l)
 most-above held [] b (List·Memᴰ·head e) = rw e (le-refl _)
 most-above held (told ∷ l) b (List·Memᴰ·head e) =
-    rw e (omega (arith, more-level held told, larger-left (level held) (level told), most-above (more held told) l (more held told) (List·Memᴰ·head refl)))
+    rw e (omega (arith, more-level held told, larger-left (level held) (level told), most-above (moreKnown held told) l (moreKnown held told) (List·Memᴰ·head refl)))
 most-above held (told ∷ l) b (List·Memᴰ·tail (List·Memᴰ·head e)) =
-    rw e (omega (arith, more-level held told, larger-right (level held) (level told), most-above (more held told) l (more held told) (List·Memᴰ·head refl)))
-most-above held (told ∷ l) b (List·Memᴰ·tail (List·Memᴰ·tail m)) = most-above (more held told) l b (List·Memᴰ·tail m)
+    rw e (omega (arith, more-level held told, larger-right (level held) (level told), most-above (moreKnown held told) l (moreKnown held told) (List·Memᴰ·head refl)))
+most-above held (told ∷ l) b (List·Memᴰ·tail (List·Memᴰ·tail m)) = most-above (moreKnown held told) l b (List·Memᴰ·tail m)
 
 -- so, where all agree, any order and any repetition gives the same: both are the one with the highest level
-pub most-same : (held : Best) (k l : List Best) → ((a b : Best) → a ∈ (held ∷ k) → b ∈ (held ∷ k) → Agree a b) → SameMembers k l → most held k ≡ most held l
+pub most-same : (held : Best) (k l : List Best) → ((a b : Best) → a ∈ (held ∷ k) → b ∈ (held ∷ k) → Agree a b) → SameMembers k l → mostKnown held k ≡ mostKnown held l
 most-same held k l g s =
-    let here : most held k ∈ (held ∷ k) = most-among held k in
-    let there : most held l ∈ (held ∷ k) = within (most-among held l) in
-    agree-fixed (most held k) (most held l) (g _ _ here there)
-    (omega (arith, most-above held k (most held l) there, most-above held l (most held k) (back here)))
+    let here : mostKnown held k ∈ (held ∷ k) = most-among held k in
+    let there : mostKnown held l ∈ (held ∷ k) = within (most-among held l) in
+    agree-fixed (mostKnown held k) (mostKnown held l) (g _ _ here there)
+    (omega (arith, most-above held k (mostKnown held l) there, most-above held l (mostKnown held k) (back here)))
   where
     within : {b : Best} → b ∈ (held ∷ l) → b ∈ (held ∷ k)
     within (List·Memᴰ·head e) = List·Memᴰ·head e

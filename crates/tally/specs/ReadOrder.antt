@@ -24,9 +24,9 @@ use Rattle.tally.specs.AnyOrder.{Eight, Agreeing, Consistent, mergeAll, 
 -- WHAT IS SAID
 
 -- the read after the replies of the list's members, in its order; what member m replies is said m
-abbrev pub heard : ℕ → (ℕ → Tally) → Read → List ℕ → Read
-heard quorum said d [] = d
-heard quorum said d (m ∷ ms) = heard quorum said (replyTo quorum m false (said m) d .read) ms
+abbrev pub readAfter : ℕ → (ℕ → Tally) → Read → List ℕ → Read
+readAfter quorum said d [] = d
+readAfter quorum said d (m ∷ ms) = readAfter quorum said (replyTo quorum m false (said m) d .read) ms
 
 -- the replies of members not yet acknowledged agree with what the read knows and with each other
 pub record Agreed (said : ℕ → Tally) (d : Read) (ms : List ℕ) : Type 0 where
@@ -38,7 +38,7 @@ pub record Agreed (said : ℕ → Tally) (d : Read) (ms : List ℕ) : Type 0 whe
 
 -- 02: "any order and any repetition of the same replies": members' lists with the same members
 abbrev pub ReadAnyOrder : Type 0
-ReadAnyOrder = (quorum : ℕ) (said : ℕ → Tally) (d : Read) (k l : List ℕ) → Agreed said d k → SameMembers k l → heard quorum said d k ≡ heard quorum said d l
+ReadAnyOrder = (quorum : ℕ) (said : ℕ → Tally) (d : Read) (k l : List ℕ) → Agreed said d k → SameMembers k l → readAfter quorum said d k ≡ readAfter quorum said d l
 
 -- the members not yet acknowledged, as they first come
 abbrev pub newcomers : ℕ → List ℕ → List ℕ
@@ -96,16 +96,16 @@ abbrev pub joinedBy : (ℕ → Tally) → Read → ℕ → Read
 joinedBy said d m = withAck (withTally d (joined (d .tally) (said m))) m
 
 -- the read after many: whom it has heard, and what it knows
-abbrev pub after : (ℕ → Tally) → Read → List ℕ → Read
-after said d ms = record { id = d .id; acks = insertAll (d .acks) ms; keys = d .keys; tally = mergeAll (d .tally) (map said (newcomers (d .acks) ms)) }
+abbrev pub collected : (ℕ → Tally) → Read → List ℕ → Read
+collected said d ms = record { id = d .id; acks = insertAll (d .acks) ms; keys = d .keys; tally = mergeAll (d .tally) (map said (newcomers (d .acks) ms)) }
 
 module _ (quorum : ℕ) (said : ℕ → Tally) where
   module _ (d : Read) (m : ℕ) where
-    pub heard-again : has (d .acks) m ≡ true → replyTo quorum m false (said m) d ≡ stays 0 d
-    heard-again t = reply-again quorum m (said m) d false refl t
+    pub after-again : has (d .acks) m ≡ true → replyTo quorum m false (said m) d ≡ stays 0 d
+    after-again t = reply-again quorum m (said m) d false refl t
 
-    pub heard-new : has (d .acks) m ≡ false → d .tally .count ≤ 8 → Agreeing (d .tally) (said m) → replyTo quorum m false (said m) d ≡ quorumCloses quorum (joinedBy said d m)
-    heard-new t few g =
+    pub after-new : has (d .acks) m ≡ false → d .tally .count ≤ 8 → Agreeing (d .tally) (said m) → replyTo quorum m false (said m) d ≡ quorumCloses quorum (joinedBy said d m)
+    after-new t few g =
         reply-new quorum m (said m) d false refl t ∙ ap (λ (x : Merged). acknowledged quorum m d x) (agreeing-merge (d .tally) (said m) few g)
 
   closes-read : (d : Read) → quorumCloses quorum d .read ≡ d
@@ -125,7 +125,7 @@ module _ (quorum : ℕ) (said : ℕ → Tally) where
 
       go : (has (d .acks) m ≡ true) ⊎ (has (d .acks) m ≡ false) → P (replyTo quorum m false (said m) d)
       go (inl t) =
-          rw (heard-again d m t)
+          rw (after-again d m t)
           (known t
           (record {
             eight = g .eight;
@@ -136,7 +136,7 @@ module _ (quorum : ℕ) (said : ℕ → Tally) where
           }))
       go (inr t) =
           let one : Agreeing (d .tally) (said m) = g .with-held m (List·Memᴰ·head refl) t in
-          rw (heard-new d m t (g .eight .few) one)
+          rw (after-new d m t (g .eight .few) one)
           (new t
           (record {
             eight = joined-eight (d .tally) (said m) (g .eight);
@@ -148,35 +148,35 @@ module _ (quorum : ℕ) (said : ℕ → Tally) where
             with-each = λ x y o p e f. g .with-each x y (List·Memᴰ·tail o) (List·Memᴰ·tail p) (before x o e) (before y p f);
           }))
 
-  pub heard-after : (d : Read) (ms : List ℕ) → Agreed said d ms → heard quorum said d ms ≡ after said d ms
-  heard-after d [] g = refl
-  heard-after d (m ∷ ms) g =
-      agreed-cases (λ (o : Replied). heard quorum said (o .read) ms ≡ after said d (m ∷ ms)) d m ms g
-      (λ t k. rw (insert-again (d .acks) m t, t) (heard-after d ms k))
+  pub after-collected : (d : Read) (ms : List ℕ) → Agreed said d ms → readAfter quorum said d ms ≡ collected said d ms
+  after-collected d [] g = refl
+  after-collected d (m ∷ ms) g =
+      agreed-cases (λ (o : Replied). readAfter quorum said (o .read) ms ≡ collected said d (m ∷ ms)) d m ms g
+      (λ t k. rw (insert-again (d .acks) m t, t) (after-collected d ms k))
       (λ t k.
       let rest : List Tally = map said (newcomers (insert (d .acks) m) ms) in
       let first : mergeAll (joined (d .tally) (said m)) rest ≡ mergeAll (d .tally) (said m ∷ rest) =
       sym (ap (λ (x : Merged). mergeAll (x .tally) rest) (agreeing-merge (d .tally) (said m) (g .eight .few) (g .with-held m (List·Memᴰ·head refl) t))) in
       rw (closes-read (joinedBy said d m), t)
-      (heard-after (joinedBy said d m) ms k
+      (after-collected (joinedBy said d m) ms k
       ∙ ap (λ (x : Tally). record { id = d .id; acks = insertAll (insert (d .acks) m) ms; keys = d .keys; tally = x }) first))
 
   -- the first of two lists, then the second
-  pub heard-append : (d : Read) (k l : List ℕ) → heard quorum said d (k ++ l) ≡ heard quorum said (heard quorum said d k) l
-  heard-append d [] l = refl
-  heard-append d (m ∷ k) l = heard-append (replyTo quorum m false (said m) d .read) k l
+  pub after-append : (d : Read) (k l : List ℕ) → readAfter quorum said d (k ++ l) ≡ readAfter quorum said (readAfter quorum said d k) l
+  after-append d [] l = refl
+  after-append d (m ∷ k) l = after-append (replyTo quorum m false (said m) d .read) k l
 
-  pub agreed-append : (d : Read) (k l : List ℕ) → Agreed said d (k ++ l) → Agreed said (heard quorum said d k) l
+  pub agreed-append : (d : Read) (k l : List ℕ) → Agreed said d (k ++ l) → Agreed said (readAfter quorum said d k) l
   agreed-append d [] l g = g
   agreed-append d (m ∷ k) l g =
-      agreed-cases (λ (o : Replied). Agreed said (heard quorum said (o .read) k) l) d m (k ++ l) g (λ t h. agreed-append d k l h)
+      agreed-cases (λ (o : Replied). Agreed said (readAfter quorum said (o .read) k) l) d m (k ++ l) g (λ t h. agreed-append d k l h)
       (λ t h. rw (closes-read (joinedBy said d m)) (agreed-append (joinedBy said d m) k l h))
 
   -- with a quorum acknowledged and nobody more, all who speak are known, and nothing changes
-  pub heard-full : (d : Read) (ms : List ℕ) → Agreed said d ms → quorum ≤ countIn (d .acks) → countIn (insertAll (d .acks) ms) ≤ quorum → heard quorum said d ms ≡ d
-  heard-full d [] g h l = refl
-  heard-full d (m ∷ ms) g h l =
-      agreed-cases (λ (o : Replied). heard quorum said (o .read) ms ≡ d) d m ms g (λ t k. heard-full d ms k h (rw (insert-again (d .acks) m t) at l))
+  pub after-full : (d : Read) (ms : List ℕ) → Agreed said d ms → quorum ≤ countIn (d .acks) → countIn (insertAll (d .acks) ms) ≤ quorum → readAfter quorum said d ms ≡ d
+  after-full d [] g h l = refl
+  after-full d (m ∷ ms) g h l =
+      agreed-cases (λ (o : Replied). readAfter quorum said (o .read) ms ≡ d) d m ms g (λ t k. after-full d ms k h (rw (insert-again (d .acks) m t) at l))
       (λ t k.
       absurd
       (omega (
@@ -219,4 +219,4 @@ read-any-order quorum said d k l g w =
     let tally : mergeAll (d .tally) (map said (newcomers (d .acks) k)) ≡ mergeAll (d .tally) (map said (newcomers (d .acks) l)) =
     any-order (d .tally) (map said (newcomers (d .acks) k)) (map said (newcomers (d .acks) l)) (g .eight) (new-consistent said d k g)
     (map-members said (newcomers (d .acks) k) (newcomers (d .acks) l) (newcomers-same (d .acks) k l (g .set) (g .members) w)) in
-    heard-after quorum said d k g ∙ rw (acks, tally) (sym (heard-after quorum said d l (agreed-same said d k l g w)))
+    after-collected quorum said d k g ∙ rw (acks, tally) (sym (after-collected quorum said d l (agreed-same said d k l g w)))
