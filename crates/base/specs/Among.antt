@@ -1,5 +1,5 @@
 -- Membership in a list, lists with the same members, and a fact about every element of one.
-use mathlib.Core.List.{List, [], _∷_, _++_, List·Memᴰ, List·Memᴰ·head, List·Memᴰ·tail}
+use mathlib.Core.List.{List, [], _∷_, _++_, map, List·Memᴰ, List·Memᴰ·head, List·Memᴰ·tail, Memᴰ·map, Memᴰ·of-map}
 
 infixl 20 _∈_
 abbrev pub _∈_ : {A : Type 0} → A → List A → Type 0
@@ -9,6 +9,13 @@ a ∈ l = List·Memᴰ a l
 pub record SameMembers {A : Type 0} (k l : List A) : Type 0 where
   pub there : (a : A) → a ∈ k → a ∈ l
   pub back : (a : A) → a ∈ l → a ∈ k
+
+pub map-members : {A B : Type 0} (f : A → B) (k l : List A) → SameMembers k l → SameMembers (map f k) (map f l)
+map-members f k l s =
+    record {
+      there = λ b m. let o = Memᴰ·of-map f k m in rw (← o .2) (Memᴰ·map f (s .there (o .0) (o .1)));
+      back = λ b m. let o = Memᴰ·of-map f l m in rw (← o .2) (Memᴰ·map f (s .back (o .0) (o .1)));
+    }
 
 -- of every element: a product, so that it is built by a tuple and used by `all-in`
 abbrev pub All : {A : Type 0} → (A → Type 0) → List A → Type 0

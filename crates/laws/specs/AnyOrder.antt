@@ -112,6 +112,11 @@ abbrev pub SameRead : Type 0
 SameRead = (id : ℕ) (said : ℕ → Tally) (r a b : Replica) (k l : List ℕ) → ReadOpen id r → AgreeingReplies id said r k → acknowledgedWith id r k < quorum (r .sc)
     → SameMembers k l → CallsBetween id said r k a → CallsBetween id said r l b → readOf a id ≡ readOf b id
 
+-- each reply on the way is answered 0, also the one that makes the quorum: no 12
+abbrev pub AnsweredZero : Type 0
+AnsweredZero = (id : ℕ) (said : ℕ → Tally) (r after : Replica) (ms : List ℕ) (room m : ℕ) → ReadOpen id r → AgreeingReplies id said r (ms ++ (m ∷ []))
+    → acknowledgedWith id r ms < quorum (r .sc) → CallsBetween id said r ms after → 3456 ≤ room → step after room (memberReply id said m) .answer ≡ 0
+
 -- "quorum answers", for every key of the read
 abbrev pub allAnswers : ℕ → Read → List Act
 allAnswers leader d = answerActs leader d (d .tally .count)

@@ -1,5 +1,5 @@
 -- Replies to an open read with any other calls between them: whatever comes, the read knows what the members heard so far have told it. The statements are
--- `KnowsHeard`, `SameRead`, `AnswersHeard` and `SameAnswers` (AnyOrder).
+-- `KnowsHeard`, `SameRead`, `AnsweredZero`, `AnswersHeard` and `SameAnswers` (AnyOrder).
 use mathlib.Core.Path.{_≡_, refl, sym, ap, _∙_}
 use mathlib.Core.Bool.{Bool, true, false, not}
 use mathlib.Core.List.{List, [], _∷_, _++_, List·Memᴰ·head, List·Memᴰ·tail, Memᴰ·append-left, Memᴰ·append-right}
@@ -10,7 +10,7 @@ use lib.Dec.{ltb, leb}
 use lib.ListN.{getD}
 use lib.Seq.{getD-set-other}
 use borrow.Author.Tests.{le-leb, leb-true, leb-false}
-use Rattle.base.specs.Pick.{pick-both, pick-cases, same?, and-make}
+use Rattle.base.specs.Pick.{pick-both, pick-cases, same?}
 use Rattle.base.specs.Among.{_∈_}
 use Rattle.members.specs.Sets.{insert, countIn}
 use Rattle.members.specs.Groups.{quorumOf}
@@ -28,6 +28,7 @@ use Rattle.decide.specs.Scalars.{isMember, quorum}
 use Rattle.replica.specs.declared.Replica.{Replica}
 use Rattle.replica.specs.Record.{Outcome}
 use Rattle.replica.specs.Fit.{fit, ready}
+use Rattle.replica.specs.AdmitLaws.{ready-last, member-some}
 use Rattle.replica.specs.ReadCallLaws.{reply-known}
 use Rattle.replica.specs.Quorumread.{withReads, openReadStep, repliedStep, readReplyStep}
 use Rattle.replica.specs.Step.{Call, step}
@@ -35,8 +36,8 @@ use Rattle.laws.specs.OfFit.{fit-facts}
 use Rattle.laws.specs.WaysAdded.{readPlace, readAt, stayed}
 use Rattle.laws.specs.Good.{Sized}
 use Rattle.laws.specs.OpenReads.{call-cases, other-calls, Waiting, waiting-stays}
-use Rattle.laws.specs.AnyOrder.{readOf, ReadOpen, AgreeingReplies, memberReply, Aside, CallsBetween, no-more, aside, from-member, KnowsHeard, SameRead, allAnswers, AnswersHeard, SameAnswers}
-use Rattle.laws.specs.InARow.{member-in, replied-again, agreed-of, replies-within, acknowledged-same}
+use Rattle.laws.specs.AnyOrder.{readOf, ReadOpen, AgreeingReplies, memberReply, Aside, CallsBetween, no-more, aside, from-member, acknowledgedWith, answeredRead, KnowsHeard, SameRead, AnsweredZero, allAnswers, AnswersHeard, SameAnswers}
+use Rattle.laws.specs.InARow.{replied-open, replied-shut, agreed-of, replies-within, acknowledged-same}
 use Rattle.laws.specs.Theorems.{fit-stays, group-stays, sizes-stay}
 
 -- ANOTHER CALL
@@ -119,7 +120,7 @@ module _ (id : ℕ) (said : ℕ → Tally) (r : Replica) (o : ReadOpen id r) (n 
       → Stands d (step r n (memberReply id said m) .replica)
   reply-leaves m l f d e =
       rw
-      (reply-known r n m id false (said m) 0 (member-in r n m (and-make (le-leb 3456 n roomy) (o .fits)) l) refl f (readPlace r id) refl (o .known) (quorum (r .sc))
+      (reply-known r n m id false (said m) 0 (member-some r n m (sym (ready-last r n roomy) ∙ o .fits) l) refl f (readPlace r id) refl (o .known) (quorum (r .sc))
       (replyTo (quorum (r .sc)) m false (said m) (readOf r id)) refl refl
       ∙ e) (
         readPlace r id,
@@ -157,12 +158,12 @@ knows-heard id said r after _ o h b (from-member {ms = ms} n m roomy rest) =
     let Leaves : Replied → Type 0 =
     λ x. ((e : Read) → repliedStep r p x ≡ stayed 0 r p e → Stands e (step r n c .replica)) → ReadOpen id after × (readOf after id ≡ readAfter q said (x .read) ms) in
     agreed-cases q said Leaves d m ms (agreed-of id said r (m ∷ ms) o h)
-    (λ t k leaves. on d refl k (rw (insert-again (d .acks) m t) at b) (leaves d (replied-again r p d)))
+    (λ t k leaves. on d refl k (rw (insert-again (d .acks) m t) at b) (leaves d (replied-open r p d)))
     (λ t k.
     let e : Read = joinedBy said d m in
     pick-cases Leaves (leb q (countIn (e .acks)))
     (λ z leaves. absurd (omega (arith, leb-true q (countIn (e .acks)) z, b, insertAll-count (e .acks) ms (k .set) (k .members))))
-    (λ z leaves. on e refl k b (leaves e (replied-again r p e))))
+    (λ z leaves. on e refl k b (leaves e (replied-open r p e))))
     (reply-leaves id said r o n roomy m (h .members m (List·Memᴰ·head refl)) (h .few m (List·Memᴰ·head refl)))
 
 pub same-read : SameRead
@@ -178,27 +179,51 @@ calls-group id said r after ms (aside n c e rest) = calls-group id said (step r 
 calls-group id said r after _ (from-member {ms = ms} n m roomy rest) =
     calls-group id said (step r n (memberReply id said m) .replica) after ms rest ∙ group-stays r n (memberReply id said m)
 
+-- one reply more: it meets the read as the others have left it
+module _ (id : ℕ) (said : ℕ → Tally) (r after : Replica) (ms : List ℕ) (room m : ℕ) (o : ReadOpen id r) (h : AgreeingReplies id said r (ms ++ (m ∷ [])))
+    (below : acknowledgedWith id r ms < quorum (r .sc)) (calls : CallsBetween id said r ms after) (roomy : 3456 ≤ room) where
+  earlier : AgreeingReplies id said r ms
+  earlier = replies-within id said r (ms ++ (m ∷ [])) ms h (λ x u. Memᴰ·append-left (m ∷ []) u)
+
+  one-more : readReplyStep after room m id false (said m)
+      ≡ repliedStep after (readPlace after id) (replyTo (quorum (r .sc)) m false (said m) (answeredRead id said r ms))
+  one-more =
+      let end = knows-heard id said r after ms o earlier below calls in
+      let group = calls-group id said r after ms calls in
+      let last : m ∈ (ms ++ (m ∷ [])) = Memᴰ·append-right ms (List·Memᴰ·head refl) in
+      reply-known after room m id false (said m) 0 (member-some after room m (sym (ready-last after room roomy) ∙ end .0 .fits) (rw group (h .members m last))) refl
+      (h .few m last) (readPlace after id) refl (end .0 .known) (quorum (r .sc)) (replyTo (quorum (r .sc)) m false (said m) (answeredRead id said r ms))
+      (sym (ap quorumOf group)) (ap (λ (x : Read). replyTo (quorum (r .sc)) m false (said m) x) (sym (end .1)))
+
+  agreed-more : Agreed said (answeredRead id said r ms) (m ∷ [])
+  agreed-more = agreed-append (quorum (r .sc)) said (readOf r id) ms (m ∷ []) (agreed-of id said r (ms ++ (m ∷ [])) o h)
+
+pub answered-zero : AnsweredZero
+answered-zero id said r after ms room m o h below calls roomy =
+    let q : ℕ = quorum (r .sc) in
+    let p : ℕ = readPlace after id in
+    let e : Read = answeredRead id said r ms in
+    let Zero : Replied → Type 0 = λ x. repliedStep after p x .answer ≡ 0 in
+    rw (one-more id said r after ms room m o h below calls roomy)
+    (agreed-cases q said Zero e m [] (agreed-more id said r after ms room m o h below calls roomy) (λ t k. ap (λ (x : Outcome). x .answer) (replied-open after p e))
+    (λ t k. pick-both Zero (leb q (countIn (joinedBy said e m .acks))) (ap (λ (x : Outcome). x .answer) (replied-shut after p (joinedBy said e m)))
+    (ap (λ (x : Outcome). x .answer) (replied-open after p (joinedBy said e m)))))
+
 pub answers-heard : AnswersHeard
-unfolding repliedStep
 answers-heard id said r after ms room m o h below full calls roomy =
     let q : ℕ = quorum (r .sc) in
+    let p : ℕ = readPlace after id in
     let d : Read = readOf r id in
-    let e : Read = readAfter q said d ms in
-    let front : AgreeingReplies id said r ms = replies-within id said r (ms ++ (m ∷ [])) ms h (λ x u. Memᴰ·append-left (m ∷ []) u) in
-    let end = knows-heard id said r after ms o front below calls in
-    let last : m ∈ (ms ++ (m ∷ [])) = Memᴰ·append-right ms (List·Memᴰ·head refl) in
-    let same : quorum (after .sc) ≡ q = ap quorumOf (calls-group id said r after ms calls) in
-    let in-group : m < after .sc .group = rw (calls-group id said r after ms calls) (h .members m last) in
-    let now = reply-known after room m id false (said m) 0 (member-in after room m (and-make (le-leb 3456 room roomy) (end .0 .fits)) in-group) refl
-    (h .few m last) (readPlace after id) refl (end .0 .known) q (replyTo q m false (said m) e) (sym same)
-    (ap (λ (x : Read). replyTo q m false (said m) x) (sym (end .1))) in
-    let acks : e .acks ≡ insertAll (d .acks) ms = ap (λ (x : Read). x .acks) (after-collected q said d ms (agreed-of id said r ms o front)) in
-    let most : q ≤ countIn (insert (e .acks) m) = rw (insertAll-append (d .acks) ms (m ∷ []), ← acks) at full in
-    rw (now, after-append q said d ms (m ∷ []))
-    (agreed-cases q said (λ (x : Replied). repliedStep after (readPlace after id) x .actions ≡ allAnswers (after .sc .leader) (x .read)) e m []
-    (agreed-append q said d ms (m ∷ []) (agreed-of id said r (ms ++ (m ∷ [])) o h))
+    let e : Read = answeredRead id said r ms in
+    let acks : e .acks ≡ insertAll (d .acks) ms =
+    ap (λ (x : Read). x .acks)
+    (after-collected q said d ms (agreed-of id said r ms o (earlier id said r after ms room m o h below calls roomy))) in
+    let enough : q ≤ countIn (insert (e .acks) m) = rw (insertAll-append (d .acks) ms (m ∷ []), ← acks) at full in
+    rw (one-more id said r after ms room m o h below calls roomy, after-append q said d ms (m ∷ []))
+    (agreed-cases q said (λ (x : Replied). repliedStep after p x .actions ≡ allAnswers (after .sc .leader) (x .read)) e m []
+    (agreed-more id said r after ms room m o h below calls roomy)
     (λ t k. absurd (omega (arith, ap countIn (insert-again (e .acks) m t), ap countIn acks)))
-    (λ t k. rw (le-leb q (countIn (insert (e .acks) m)) most) refl))
+    (λ t k. rw (le-leb q (countIn (insert (e .acks) m)) enough) (ap (λ (x : Outcome). x .actions) (replied-shut after p (joinedBy said e m)))))
 
 pub same-answers : SameAnswers
 same-answers id said r a b k l room m n o h below under full s ka lb roomy leaders =

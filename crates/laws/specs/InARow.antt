@@ -8,8 +8,8 @@ use Prim.Native.Nat.{ℕ, _-_, _≤_, _<_}
 use native.Mathlib.Omega.{arith}
 use lib.Dec.{leb}
 use lib.ListN.{length}
-use borrow.Author.Tests.{lt-ltb, le-leb, leb-true, leb-false}
-use Rattle.base.specs.Pick.{pick-cases, decide, clash, same?, and-both, and-make}
+use borrow.Author.Tests.{leb-true, leb-false}
+use Rattle.base.specs.Pick.{pick-cases, decide, clash, and-both}
 use Rattle.base.specs.Among.{_∈_, SameMembers, All}
 use Rattle.members.specs.Sets.{countIn}
 use Rattle.members.specs.Laws.{group-bounds, within-small, insert-again}
@@ -19,32 +19,31 @@ use Rattle.tally.specs.declared.Read.{Read}
 use Rattle.tally.specs.declared.Reads.{Reads}
 use Rattle.tally.specs.declared.Replied.{Replied}
 use Rattle.tally.specs.Open.{closeRead, putRead, stays, replyTo}
-use Rattle.tally.specs.ReadLaws.{readAt as tableAt, idAt, Distinct, find-id, find-only, find-nowhere, close-others, close-last, close-count, close-gone, put-count, put-length, put-others, put-here, put-distinct, put-again, put-back}
+use Rattle.tally.specs.ReadLaws.{idAt, Distinct, find-id, find-only, find-nowhere, close-gone, close-put-count, close-put-each, put-count, put-length, put-here, put-distinct, put-again, put-back}
 use Rattle.tally.specs.ReadOrder.{readAfter, Agreed, joinedBy, agreed-cases, after-full, read-any-order}
 use Rattle.actions.specs.Actions.{Act}
 use Rattle.decide.specs.Scalars.{quorum}
 use Rattle.replica.specs.declared.Replica.{Replica}
 use Rattle.replica.specs.Record.{Outcome}
 use Rattle.replica.specs.Fit.{fit, ready}
-use Rattle.replica.specs.Admit.{fromMember}
+use Rattle.replica.specs.AdmitLaws.{ready-last, member-some}
 use Rattle.replica.specs.Quorumread.{withReads, repliedStep, readReplyStep}
-use Rattle.replica.specs.ReadCallLaws.{reply-known, reply-unknown}
+use Rattle.replica.specs.ReadCallLaws.{replied-stays, reply-known, reply-unknown}
 use Rattle.laws.specs.OfFit.{fit-facts}
-use Rattle.laws.specs.WaysAdded.{readPlace, readAt, stayed}
+use Rattle.laws.specs.WaysAdded.{readPlace, closed, stayed}
 use Rattle.laws.specs.AnyOrder.{readOf, ReadOpen, AgreeingReplies, acknowledgedWith, memberReply, replied, repliedActs, repliedAnswers, SameInUse, InAnyOrder, allAnswers}
 use Rattle.laws.specs.Theorems.{fit-stays}
 
 -- ONE REPLY
 
--- a member of the group is let in
-pub member-in : (r : Replica) (n m : ℕ) → ready r n ≡ true → m < r .sc .group → 0 ≡ fromMember r n m
-unfolding fromMember
-member-in r n m on l = rw (on, lt-ltb m (r .sc .group) l)
+-- what can come of it, with 0: the read stays open, or closes and answers for every key
+pub replied-open : (r : Replica) (p : ℕ) (d : Read) → repliedStep r p (stays 0 d) ≡ stayed 0 r p d
+replied-open r p d = replied-stays r p (stays 0 d) refl refl refl refl
 
--- the read stays open
-pub replied-again : (r : Replica) (p : ℕ) (d : Read) → repliedStep r p (stays 0 d) ≡ stayed 0 r p d
+pub replied-shut : (r : Replica) (p : ℕ) (d : Read)
+    → repliedStep r p (record { answer = 0; closes = true; answers = d .tally .count; read = d }) ≡ closed r p d (d .tally .count)
 unfolding repliedStep
-replied-again r p d = refl
+replied-shut r p d = refl
 
 same-refl : (a : Replica) → SameInUse a a
 same-refl a = record { sc = refl; bars = refl; window = refl; keys = refl; count = refl; reads = λ i h. refl }
@@ -85,7 +84,7 @@ module _ (room id : ℕ) (said : ℕ → Tally) (r : Replica) (on : ready r room
   ignored [] members few = record { replica = refl; actions = refl; zeros = tt }
   ignored (m ∷ ms) members few =
       let rest = ignored ms (λ x o. members x (List·Memᴰ·tail o)) (λ x o. few x (List·Memᴰ·tail o)) in
-      rw (reply-unknown r room m id false (said m) 0 (member-in r room m on (members m (List·Memᴰ·head refl))) refl (few m (List·Memᴰ·head refl)) (readPlace r id) refl gone)
+      rw (reply-unknown r room m id false (said m) 0 (member-some r room m on (members m (List·Memᴰ·head refl))) refl (few m (List·Memᴰ·head refl)) (readPlace r id) refl gone)
       (record { replica = rest .replica; actions = rest .actions; zeros = (refl, rest .zeros) })
 
 -- a replica with a read open at place p, and the same with that read as d
@@ -128,12 +127,12 @@ module _ (room id : ℕ) (said : ℕ → Tally) (r : Replica) (p : ℕ) where
     with-with d e = ap (λ (rs : Reads). withReads r rs) (put-again (r .reads) p d e)
 
     on : (a : Replica) → fit a ≡ true → ready a room ≡ true
-    on a f = and-make (le-leb 3456 room (base .roomy)) f
+    on a f = sym (ready-last a room (base .roomy)) ∙ f
 
     one-reply : (d : Read) (m : ℕ) → fit (with d) ≡ true → d .id ≡ id → m < r .sc .group → said m .count ≤ 8
         → readReplyStep (with d) room m id false (said m) ≡ repliedStep (with d) p (replyTo (quorum (r .sc)) m false (said m) d)
     one-reply d m f e l q =
-        reply-known (with d) room m id false (said m) 0 (member-in (with d) room m (on (with d) f) l) refl q p (sym (found d e))
+        reply-known (with d) room m id false (said m) 0 (member-some (with d) room m (on (with d) f) l) refl q p (sym (found d e))
         (omega (arith, base .below, put-count (r .reads) p d)) (quorum (r .sc)) (replyTo (quorum (r .sc)) m false (said m) d) refl
         (ap (λ (x : Read). replyTo (quorum (r .sc)) m false (said m) x) (sym (put-here (r .reads) p d (base .long) (base .table) (base .below))))
 
@@ -141,34 +140,16 @@ module _ (room id : ℕ) (said : ℕ → Tally) (r : Replica) (p : ℕ) where
     abbrev shutAt : Read → Replica
     shutAt d = withReads (with d) (closeRead (with d .reads) p)
 
-    shut-count : (d : Read) → shutAt d .reads .count ≡ closeRead (r .reads) p .count
-    shut-count d =
-        omega (
-          arith,
-          base .table,
-          base .below,
-          put-count (r .reads) p d,
-          close-count (r .reads) p (base .table) (base .below),
-          close-count (with d .reads) p (omega (arith, base .table, put-count (r .reads) p d)) (omega (arith, base .below, put-count (r .reads) p d)),
-        )
-
-    shut-reads : (d : Read) (i : ℕ) → i < shutAt d .reads .count → readAt (shutAt d) i ≡ tableAt (closeRead (r .reads) p) i
-    shut-reads d i h =
-        let n = put-count (r .reads) p d in
-        let few : with d .reads .count ≤ 16 = omega (arith, base .table) in
-        let below : p < with d .reads .count = omega (arith, base .below) in
-        ⊎-elim
-        (λ (e : i ≡ p).
-        rw e
-        (close-last (with d .reads) p (put-length (r .reads) p d ∙ base .long) few below
-        ∙ (ap (λ (x : ℕ). tableAt (with d .reads) (x - 1)) n
-        ∙ (put-others (r .reads) p d (r .reads .count - 1) (λ z. omega (arith, shut-count d, close-count (r .reads) p (base .table) (base .below)))
-        ∙ sym (close-last (r .reads) p (base .long) (base .table) (base .below))))))
-        (λ (e : i ≡ p → ⊥). close-others (with d .reads) p i e ∙ (put-others (r .reads) p d i e ∙ sym (close-others (r .reads) p i e)))
-        (same? i p)
-
     shut-same : (d : Read) → SameInUse (shutAt d) (withReads r (closeRead (r .reads) p))
-    shut-same d = record { sc = refl; bars = refl; window = refl; keys = refl; count = shut-count d; reads = shut-reads d }
+    shut-same d =
+        record {
+          sc = refl;
+          bars = refl;
+          window = refl;
+          keys = refl;
+          count = close-put-count (r .reads) p d (base .long) (base .table) (base .below);
+          reads = close-put-each (r .reads) p d (base .long) (base .table) (base .below);
+        }
 
     shut-gone : (d : Read) → d .id ≡ id → shutAt d .reads .count ≤ readPlace (shutAt d) id
     shut-gone d e =
@@ -193,17 +174,17 @@ module _ (room id : ℕ) (said : ℕ → Tally) (r : Replica) (p : ℕ) where
         → (fit (with e) ≡ true → Ends (readAfter (quorum (r .sc)) said e ms) (replied room id said (with e) ms) (repliedActs room id said (with e) ms) (repliedAnswers room id said (with e) ms))
         → Then d ms (stays 0 e)
     then-open d e ms rest =
-        rw (replied-again (with d) p e, with-with d e) (λ f. record { done = (refl, rest f .done); still = rest f .still; shut = rest f .shut })
+        rw (replied-open (with d) p e, with-with d e) (λ f. record { done = (refl, rest f .done); still = rest f .still; shut = rest f .shut })
 
     -- it closes, as e: whoever comes after is ignored
     then-shut : (d e : Read) (ms : List ℕ) → d .id ≡ id → Agreed said e ms → ((m : ℕ) → m ∈ ms → m < r .sc .group) → ((m : ℕ) → m ∈ ms → said m .count ≤ 8)
         → countIn (insertAll (e .acks) ms) ≤ quorum (r .sc) → leb (quorum (r .sc)) (countIn (e .acks)) ≡ true
         → Then d ms (record { answer = 0; closes = true; answers = e .tally .count; read = e })
-    unfolding repliedStep
-    then-shut d e ms named agreed members few up-to t f =
+    then-shut d e ms named agreed members few up-to t =
+        rw (replied-shut (with d) p e, after-full (quorum (r .sc)) said e ms agreed (leb-true _ _ t) up-to)
+        (λ f.
         let rest = ignored room id said (shutAt d) (on (shutAt d) f) (shut-gone d named) ms members few in
-        rw (after-full (quorum (r .sc)) said e ms agreed (leb-true _ _ t) up-to)
-        (record {
+        record {
           done = (refl, rest .zeros);
           still = λ z. absurd (clash t z);
           shut = λ z. (rw (rest .replica) (shut-same d), rw (rest .actions) (append-nil (allAnswers (r .sc .leader) e)));

@@ -1,7 +1,7 @@
 -- 02, Wish 3: "any order and any repetition of the same replies gives the same tally". Below one key's laws (Larger) it is carried to lists once.
 use mathlib.Core.Path.{_≡_, refl, sym, ap, _∙_}
 use mathlib.Core.Bool.{true, false, not}
-use mathlib.Core.List.{List, [], _∷_, map, List·Memᴰ·head, List·Memᴰ·tail, Memᴰ·map, Memᴰ·of-map}
+use mathlib.Core.List.{List, [], _∷_, map, List·Memᴰ·head, List·Memᴰ·tail, Memᴰ·of-map}
 use mathlib.Core.Logic.{⊎-elim}
 use Prim.Native.Nat.{ℕ, _≤_, _<_}
 use native.Mathlib.Nat.{le-refl}
@@ -11,7 +11,7 @@ use lib.Seq.{ext-getD}
 use lib.Dec.{ltb}
 use borrow.Author.Tests.{ltb-true, ltb-false}
 use Rattle.base.specs.Pick.{decide, clash, tests}
-use Rattle.base.specs.Among.{_∈_, SameMembers, All}
+use Rattle.base.specs.Among.{_∈_, SameMembers, map-members, All}
 use Rattle.base.specs.Over.{length-over}
 use Rattle.base.specs.Scan.{scan-high, scan-end, scan-stopped}
 use Rattle.tally.specs.declared.Best.{Best}
@@ -212,14 +212,6 @@ key-agrees held k g i h a b = both
         let o = Memᴰ·of-map at k m in
         let u = Memᴰ·of-map at k n in
         rw (← o .2, ← u .2) (g .with-each (o .0) (u .0) (o .1) (u .1) .each i (omega (arith, g .with-held (o .0) (o .1) .even)))
-
--- lists with the same members, of one key too
-pub map-members : {A B : Type 0} (f : A → B) (k l : List A) → SameMembers k l → SameMembers (map f k) (map f l)
-map-members f k l s =
-    record {
-      there = λ b m. let o = Memᴰ·of-map f k m in rw (← o .2) (Memᴰ·map f (s .there (o .0) (o .1)));
-      back = λ b m. let o = Memᴰ·of-map f l m in rw (← o .2) (Memᴰ·map f (s .back (o .0) (o .1)));
-    }
 
 consistent-same : (held : Tally) (k l : List Tally) → Consistent held k → SameMembers k l → Consistent held l
 consistent-same held k l g s =

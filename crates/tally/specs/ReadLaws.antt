@@ -243,7 +243,7 @@ module _ (rs : Reads) (at : ℕ) (r : Read) where
   pub put-distinct : r .id ≡ idAt rs at → Distinct rs → Distinct (putRead rs at r)
   put-distinct e d i j p q x = d i j (omega (arith, put-count)) (omega (arith, put-count)) (sym (put-ids e i) ∙ (x ∙ put-ids e j))
 
--- a read written anew twice, or as it stands; and closed after it was written anew: as if it had closed before
+-- a read written anew twice, or as it stands
 module _ (rs : Reads) (at : ℕ) where
   pub put-again : (r s : Read) → putRead (putRead rs at r) at s ≡ putRead rs at s
   unfolding putRead
@@ -256,6 +256,28 @@ module _ (rs : Reads) (at : ℕ) where
   put-back =
       pick-both (λ (o : Reads). o ≡ rs) (ltb 16 (rs .count) || leb (rs .count) at) refl
       (ap (λ (l : List Read). record { count = rs .count; reads = l }) (set-getD (rs .reads) at noRead))
+
+-- a read closed after it was written anew: in the places in use as if it had closed before
+module _ (rs : Reads) (at : ℕ) (r : Read) (sized : length (rs .reads) ≡ 16) (few : rs .count ≤ 16) (h : at < rs .count) where
+  pub close-put-count : closeRead (putRead rs at r) at .count ≡ closeRead rs at .count
+  close-put-count =
+      let n = put-count rs at r in
+      let before = close-count rs at few h in
+      let after = close-count (putRead rs at r) at (omega arith) (omega arith) in
+      omega arith
+
+  pub close-put-each : (i : ℕ) → i < closeRead (putRead rs at r) at .count → readAt (closeRead (putRead rs at r) at) i ≡ readAt (closeRead rs at) i
+  close-put-each i l =
+      let n = put-count rs at r in
+      let before = close-count rs at few h in
+      ⊎-elim
+      (λ (e : i ≡ at).
+      rw e
+      (close-last (putRead rs at r) at (put-length rs at r ∙ sized) (omega arith) (omega arith)
+      ∙ (ap (λ (x : ℕ). readAt (putRead rs at r) (x - 1)) n
+      ∙ (put-others rs at r (rs .count - 1) (λ z. omega (arith, close-put-count)) ∙ sym (close-last rs at sized few h)))))
+      (λ (e : i ≡ at → ⊥). close-others (putRead rs at r) at i e ∙ (put-others rs at r i e ∙ sym (close-others rs at i e)))
+      (same? i at)
 
 -- THE FIT TEST
 

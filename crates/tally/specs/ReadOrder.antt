@@ -9,7 +9,7 @@ use native.Mathlib.Omega.{arith}
 use lib.Dec.{leb, eqb}
 use borrow.Author.Tests.{eqb-true}
 use Rattle.base.specs.Pick.{pick, pick-both, pick-cases, decide, clash, or-false}
-use Rattle.base.specs.Among.{_∈_, SameMembers}
+use Rattle.base.specs.Among.{_∈_, SameMembers, map-members}
 use Rattle.members.specs.Sets.{has, insert, countIn}
 use Rattle.members.specs.Laws.{has-insert, insert-again, insert-below, count-new}
 use Rattle.members.specs.Many.{insertAll, Members, insertAll-count, insertAll-same}
@@ -19,7 +19,7 @@ use Rattle.tally.specs.declared.Read.{Read}
 use Rattle.tally.specs.declared.Replied.{Replied}
 use Rattle.tally.specs.Open.{withTally, withAck, stays, quorumCloses, acknowledged, replyTo}
 use Rattle.tally.specs.Cases.{reply-again, reply-new}
-use Rattle.tally.specs.AnyOrder.{Eight, Agreeing, Consistent, mergeAll, joined, joined-eight, agreeing-merge, agreeing-joined, map-members, any-order}
+use Rattle.tally.specs.AnyOrder.{Eight, Agreeing, Consistent, mergeAll, joined, joined-eight, agreeing-merge, agreeing-joined, any-order}
 
 -- WHAT IS SAID
 
