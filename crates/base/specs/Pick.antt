@@ -22,6 +22,11 @@ pick false a b = b
 abbrev pub larger : ℕ → ℕ → ℕ
 larger a b = pick (ltb a b) b a
 
+-- 1 where a test holds, for counting
+abbrev pub one : Bool → ℕ
+one true = 1
+one false = 0
+
 -- what holds of both holds of the choice
 pub pick-both : {A : Type 0} (P : A → Type 0) (t : Bool) {a b : A} → P a → P b → P (pick t a b)
 pick-both P true p q = p
@@ -98,3 +103,6 @@ larger-right a b = pick-cases (λ (x : ℕ). b ≤ x) (ltb a b) (λ t. omega ari
 
 pub larger-below : (a b k : ℕ) → a < k → b < k → larger a b < k
 larger-below a b k p q = pick-both (λ (x : ℕ). x < k) (ltb a b) q p
+
+pub larger-least : (a b k : ℕ) → a ≤ k → b ≤ k → larger a b ≤ k
+larger-least a b k p q = pick-both (λ (x : ℕ). x ≤ k) (ltb a b) q p

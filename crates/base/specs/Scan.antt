@@ -1,13 +1,14 @@
 -- `scan p i end`: the first index from i up to and without `end` at which a test fails, or `end`: where a loop that stops early stops.
 use mathlib.Core.Path.{_≡_, sym, ap}
-use mathlib.Core.Bool.{Bool, true, false}
+use mathlib.Core.Bool.{Bool, true, false, _&&_}
 use mathlib.Core.Logic.{⊎-elim}
 use Prim.Native.Nat.{ℕ, zero, suc, _+_, _-_, _≤_, _<_}
 use native.Mathlib.Nat.{le-refl, eq-or-lt-of-le}
 use native.Mathlib.Numerals.{add-one}
 use native.Mathlib.Omega.{arith}
-use lib.Dec.{leb}
-use Rattle.base.specs.Pick.{pick, pick-cases, decide, tests}
+use lib.Dec.{ltb, leb, eqb}
+use borrow.Author.Tests.{eq-eqb}
+use Rattle.base.specs.Pick.{pick, pick-cases, and-both, clash, decide, tests}
 
 module _ (p : ℕ → Bool) where
   abbrev pub scanFor : ℕ → ℕ → ℕ
@@ -79,3 +80,42 @@ module _ (p : ℕ → Bool) where
   pub scan-stopped : (i end : ℕ) → scan i end < end → p (scan i end) ≡ false
   unfolding scan
   scan-stopped i end q = scanFor-stopped (end - i) i (omega (arith, scanFor-low (end - i) i))
+
+  -- the one index with these properties
+  pub scan-is : (i end k : ℕ) → i ≤ k → k ≤ end → ((j : ℕ) → i ≤ j → j < k → p j ≡ true) → (k < end → p k ≡ false) → scan i end ≡ k
+  scan-is i end k a b passed stopped =
+      ⊎-elim
+      (λ (t : ltb (scan i end) k ≡ true).
+      let l : scan i end < k = omega (arith, tests) in
+      absurd (clash (passed (scan i end) (scan-low i end) l) (scan-stopped i end (omega arith))))
+      (λ (t : ltb (scan i end) k ≡ false).
+      ⊎-elim
+      (λ (e : k ≡ scan i end). sym e)
+      (λ (u : k < scan i end).
+      absurd (clash (scan-passed i end k a u) (stopped (omega (arith, scan-high i end (omega arith))))))
+      (eq-or-lt-of-le (omega (arith, tests))))
+      (decide (ltb (scan i end) k))
+
+  -- a turn of a loop that goes up and notes where the test first fails
+  pub scan-more : (i : ℕ) → scan 0 (i + 1) ≡ pick (eqb (scan 0 i) i && p i) (i + 1) (scan 0 i)
+  scan-more i = pick-cases (λ (x : ℕ). scan 0 (i + 1) ≡ x) (eqb (scan 0 i) i && p i) all some
+    where
+      high : scan 0 i ≤ i
+      high = scan-high 0 i (omega arith)
+
+      all : (eqb (scan 0 i) i && p i) ≡ true → scan 0 (i + 1) ≡ i + 1
+      all t =
+          let b = and-both (eqb (scan 0 i) i) (p i) t in
+          scan-is 0 (i + 1) (i + 1) (omega arith) (omega arith)
+          (λ j l u.
+          ⊎-elim (λ (e : j ≡ i). rw e (b .1)) (λ (v : j < i). scan-passed 0 i j l (omega (arith, tests, b .0))) (eq-or-lt-of-le (omega arith)))
+          (λ z. absurd (omega arith))
+
+      some : (eqb (scan 0 i) i && p i) ≡ false → scan 0 (i + 1) ≡ scan 0 i
+      some t =
+          scan-is 0 (i + 1) (scan 0 i) (omega arith) (omega (arith, high)) (λ j l u. scan-passed 0 i j l u)
+          (λ z.
+          ⊎-elim
+          (λ (e : scan 0 i ≡ i). rw e (rw (eq-eqb (scan 0 i) i e) at t))
+          (λ (u : scan 0 i < i). scan-stopped 0 i u)
+          (eq-or-lt-of-le high))

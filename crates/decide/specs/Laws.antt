@@ -1,12 +1,12 @@
 -- Laws of the decisions: what none of them changes, and that each keeps a slot fit.
-use mathlib.Core.Path.{_≡_, refl}
+use mathlib.Core.Path.{_≡_, refl, _∙_}
 use mathlib.Core.Bool.{Bool, true, not, _&&_, _||_}
 use Prim.Native.Nat.{ℕ, _≤_, _<_}
 use native.Mathlib.Nat.{le-refl}
 use native.Mathlib.Omega.{arith}
 use lib.Dec.{ltb, eqb}
 use borrow.Author.Tests.{ltb-true}
-use Rattle.base.specs.Pick.{pick-both, pick-cases, and-right}
+use Rattle.base.specs.Pick.{pick, pick-both, pick-cases, and-right}
 use Rattle.members.specs.Sets.{has, countIn}
 use Rattle.batch.specs.declared.Batch.{Batch}
 use Rattle.slots.specs.declared.Vote.{Vote}
@@ -16,9 +16,12 @@ use Rattle.slots.specs.Laws.{fit-accepted, fit-acknowledged, fit-committed, fit
 use Rattle.decide.specs.declared.Scalars.{Scalars}
 use Rattle.decide.specs.declared.PeerBars.{PeerBars}
 use Rattle.decide.specs.declared.Decided.{Decided}
+use Rattle.decide.specs.declared.Reply.{Reply}
+use Rattle.decide.specs.declared.Weighed.{Weighed}
 use Rattle.decide.specs.Scalars.{leads, quorum, followed, withPeerMax}
 use Rattle.decide.specs.Bars.{withFallen, hasEntry, barOf, leastMajority, withBar}
-use Rattle.decide.specs.Decide.{silent, decideAccept, awaitsAccept, decideAcceptReply, decideVote, isCounted, decideCount, decidePromised, decideAccepted, decideOffer}
+use Rattle.decide.specs.Decide.{silent, decideAccept, awaitsAccept, decideAcceptReply, awaitsPrepare, decideVote, isCounted, decideCount, decidePromised, decideAccepted, decideOffer}
+use Rattle.decide.specs.Weighing.{unmoved, weighed}
 
 -- what no decision changes of the scalars; and the largest ballot seen never falls
 pub record Steady (a b : Scalars) : Type 0 where
@@ -186,3 +189,64 @@ fallen-is sc b m bar =
     pick-cases (λ (o : Scalars). (x : ℕ) × (x ≤ sc .«peer_accept_max») × (o ≡ withPeerMax sc x)) test
     (λ t. (least, omega (arith, ltb-true least (sc .«peer_accept_max») (and-right (ltb bar (barOf b m)) _ (and-right (hasEntry sc b m) _ t))), refl))
     (λ t. (sc .«peer_accept_max», le-refl (sc .«peer_accept_max»), refl))
+
+-- a PrepareReply leaves start, commit_bar and the status of its slot and of its trigger's
+pub record Remains (sc : Scalars) (was : ℕ) (sc′ : Scalars) (x : Slot) : Type 0 where
+  pub start : sc′ .start ≡ sc .start
+  pub commit : sc′ .«commit_bar» ≡ sc .«commit_bar»
+  pub status : x .status ≡ was
+
+module _ (sc : Scalars) (s : Slot) where
+  abbrev Left : Decided → Type 0
+  Left d = Remains sc (s .status) (d .sc) (d .slot)
+
+  remains-self : Remains sc (s .status) sc s
+  remains-self = record { start = refl; commit = refl; status = refl }
+
+  pub remains-vote : (ballot : ℕ) (voted : Bool) (v : Vote) → Remains sc (s .status) (decideVote sc s ballot voted v .sc) (decideVote sc s ballot voted v .slot)
+  unfolding decideVote
+  remains-vote ballot voted v =
+      pick-both Left (not (eqb (s .ballot) ballot) || (ltb (sc .«bal_max_seen») ballot || (voted && not (s .leader .present)))) remains-self
+      (pick-both Left (voted && ltb (s .leader .«prepare_max_bal») (v .ballot)) (record { start = refl; commit = refl; status = refl }) remains-self)
+
+  pub remains-count : (peer ballot : ℕ) → Remains sc (s .status) (decideCount sc s peer ballot .sc) (decideCount sc s peer ballot .slot)
+  unfolding decideCount
+  remains-count peer ballot =
+      pick-both Left (not (isCounted sc (countedSlot peer s))) (record { start = refl; commit = refl; status = refl })
+      (pick-both Left (ltb ballot (sc .«bal_prepared»)) remains-self (record { start = refl; commit = refl; status = refl }))
+
+-- s is its slot, t its trigger's, which have one status where they are one
+module _ (sc : Scalars) (s t : Slot) (own : Bool) (peer : ℕ) (m : Reply) (same : own ≡ true → s .status ≡ t .status) where
+  pub record WeighedRemains (g : Weighed) : Type 0 where
+    pub slot : Remains sc (s .status) (g .sc) (g .slot)
+    pub trigger : g .trigger .status ≡ t .status
+
+  remains-unmoved : (answer : ℕ) → WeighedRemains (unmoved answer sc s t)
+  remains-unmoved answer = record { slot = remains-self sc s; trigger = refl }
+
+  pub weighed-remains : WeighedRemains (weighed sc s t own peer m)
+  unfolding weighed
+  weighed-remains =
+      pick-both WeighedRemains (not (awaitsPrepare s (m .ballot))) (remains-unmoved 0)
+      (pick-both WeighedRemains (not (eqb (d .answer) 0)) (remains-unmoved (d .answer))
+      (pick-both WeighedRemains (not (eqb (m .slot) (m .endprep))) (record { slot = voted; trigger = base })
+      (pick-both WeighedRemains (not (eqb (e .answer) 0)) (remains-unmoved (e .answer))
+      (record {
+        slot = record { start = counted .start; commit = counted .commit; status = voted .status };
+        trigger = counted .status ∙ base;
+      }))))
+    where
+      d : Decided
+      d = decideVote sc s (m .ballot) (m .voted) (m .vote)
+
+      voted : Remains sc (s .status) (d .sc) (d .slot)
+      voted = remains-vote sc s (m .ballot) (m .voted) (m .vote)
+
+      base : pick own (d .slot) t .status ≡ t .status
+      base = pick-cases (λ (x : Slot). x .status ≡ t .status) own (λ z. voted .status ∙ same z) (λ z. refl)
+
+      e : Decided
+      e = decideCount sc (pick own (d .slot) t) peer (m .ballot)
+
+      counted : Remains sc (pick own (d .slot) t .status) (e .sc) (e .slot)
+      counted = remains-count sc (pick own (d .slot) t) peer (m .ballot)

@@ -10,9 +10,9 @@ use native.Mathlib.Omega.{arith}
 use lib.Dec.{ltb, leb, eqb}
 use lib.ListN.{length, getD, length-append, List·getD-eq-default}
 use borrow.Author.Tests.{le-leb, lt-leb, lt-ltb, le-ltb, eq-eqb, leb-true, leb-false, ltb-true, ltb-false, eqb-true, eqb-false}
-use Rattle.base.specs.Pick.{pick, pick-both, pick-cases, tests, decide, clash, and-left, and-right, and-make}
+use Rattle.base.specs.Pick.{pick, pick-both, pick-cases, tests, decide, clash, and-left, and-right, and-make, one}
 use Rattle.base.specs.Among.{All, all-append, all-map}
-use Rattle.members.specs.Sets.{one, count}
+use Rattle.members.specs.Sets.{count}
 use Rattle.members.specs.Groups.{groupSize}
 use Rattle.members.specs.Counting.{count-same, count-cut, count-put}
 use Rattle.members.specs.Laws.{group-bounds}

@@ -8,8 +8,8 @@ use lib.Dec.{ltb, leb, eqb}
 use lib.ListN.{length, set, List·getD-eq-default}
 use lib.Seq.{set-out}
 use borrow.Author.Tests.{lt-ltb, le-ltb, le-leb, lt-leb}
-use Rattle.base.specs.Pick.{pick}
-use Rattle.members.specs.Sets.{one, count}
+use Rattle.base.specs.Pick.{pick, one}
+use Rattle.members.specs.Sets.{count}
 use Rattle.decide.specs.declared.Scalars.{Scalars}
 use Rattle.decide.specs.declared.PeerBars.{PeerBars}
 use Rattle.decide.specs.Scalars.{unknownBar, quorum, withPeerMax}

@@ -2,7 +2,7 @@
 ghost use mathlib.Core.Path.{_≡_};
 ghost use mathlib.Core.Bool.{_||_};
 ghost use lib.Dec.{eqb};
-ghost use Rattle.members.specs.Sets.{one};
+ghost use Rattle.base.specs.Pick.{one};
 ghost use Rattle.decide.specs.Bars.{unknownBars, barOf, hasEntry, notAbove, leastMajority, withBar, withFallen};
 ghost use Rattle.decide.specs.Turns.{entryNotAbove, lesser};
 use crate::PeerBars;

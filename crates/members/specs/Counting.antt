@@ -7,8 +7,8 @@ use native.Mathlib.Nat.{le-refl}
 use native.Mathlib.Omega.{arith}
 use lib.Dec.{eqb}
 use borrow.Author.Tests.{ne-eqb}
-use Rattle.base.specs.Pick.{decide, same?}
-use Rattle.members.specs.Sets.{one, count}
+use Rattle.base.specs.Pick.{decide, same?, one}
+use Rattle.members.specs.Sets.{count}
 
 -- two tests that agree below n count alike
 pub count-same : (n : ℕ) (f g : ℕ → Bool) → ((i : ℕ) → i < n → f i ≡ g i) → count n f ≡ count n g

@@ -8,7 +8,7 @@ use Rattle.base.specs.Scan.{scan}
 use Rattle.slots.specs.declared.Slot.{Slot}
 use Rattle.slots.specs.Slots.{executed}
 use Rattle.window.specs.declared.Window.{Window}
-use Rattle.window.specs.Window.{slotAt, filled, fitSlots, lastUsed, lastOpen}
+use Rattle.window.specs.Window.{slotAt, filled, lastUsed, lastOpen}
 
 unfoldable pub filledIn : Slot → Window → ℕ → Window
 filledIn z w n = pick (leb n 64) (filled z w n) w
@@ -33,6 +33,3 @@ stopIn w ballot status from to = pick (leb to 64) (scan (passes w ballot status)
 
 unfoldable pub executedIn : Window → ℕ → ℕ → ℕ
 executedIn w from to = pick (leb to 64) (scan (λ i. eqb (slotAt w i .status) executed) from to) from
-
-unfoldable pub fitIn : ℕ → Window → Bool
-fitIn group w = leb (w .len) 64 && fitSlots group w

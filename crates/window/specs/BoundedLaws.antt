@@ -8,8 +8,8 @@ use Rattle.base.specs.Find.{any}
 use Rattle.base.specs.Scan.{scan}
 use Rattle.slots.specs.declared.Slot.{Slot}
 use Rattle.window.specs.declared.Window.{Window}
-use Rattle.window.specs.Window.{slotAt, filled, fitSlots, lastUsed, lastOpen}
-use Rattle.window.specs.Bounded.{filledIn, lastUsedIn, lastOpenIn, anyAboveIn, stopIn, executedIn, fitIn, passes}
+use Rattle.window.specs.Window.{slotAt, filled, lastUsed, lastOpen}
+use Rattle.window.specs.Bounded.{filledIn, lastUsedIn, lastOpenIn, anyAboveIn, stopIn, executedIn, passes}
 
 module _ (z : Slot) (w : Window) (n : ℕ) where
   pub filled-in : n ≤ 64 → filledIn z w n ≡ filled z w n
@@ -36,14 +36,6 @@ module _ (w : Window) where
   pub lastOpen-out : 64 < w .len → lastOpenIn w ≡ w .len
   unfolding lastOpenIn
   lastOpen-out h = rw (lt-leb (w .len) 64 h)
-
-  pub fit-in : (group : ℕ) → w .len ≤ 64 → fitIn group w ≡ fitSlots group w
-  unfolding fitIn
-  fit-in group h = rw (le-leb (w .len) 64 h)
-
-  pub fit-out : (group : ℕ) → 64 < w .len → fitIn group w ≡ false
-  unfolding fitIn
-  fit-out group h = rw (lt-leb (w .len) 64 h)
 
 module _ (w : Window) (from to : ℕ) where
   pub above-in : (ballot : ℕ) → to ≤ 64 → anyAboveIn w ballot from to ≡ any (λ i. ltb ballot (slotAt w i .ballot)) from to

@@ -8,12 +8,12 @@ use native.Mathlib.Nat.{le-refl, eq-or-lt-of-le, add-zero, add-assoc}
 use native.Mathlib.Omega.{arith}
 use lib.Dec.{leb, ltb}
 use lib.ListN.{length, getD, set, length-append}
-use borrow.Author.Tests.{le-leb, lt-leb, eq-eqb, ne-eqb}
-use Rattle.base.specs.Pick.{pick, pick-cases, and-make, tests}
+use borrow.Author.Tests.{le-leb, lt-leb, eq-eqb, ne-eqb, leb-true}
+use Rattle.base.specs.Pick.{pick, pick-cases, and-right, and-make, tests}
 use Rattle.base.specs.Over.{over, over-self, over-more, over-after}
 use Rattle.base.specs.Gather.{gather, gather-none, gather-self, gather-more}
 use Rattle.base.specs.Find.{any, any-none, any-self, last, last-more, last-below, search-found, search-more, search-done}
-use Rattle.base.specs.Scan.{scan, scanFor, scan-low, scan-high}
+use Rattle.base.specs.Scan.{scan, scanFor, scan-low, scan-high, scan-passed}
 use Rattle.actions.specs.declared.Action.the-variants.{AcceptData, Accept, CommitSlot, Execute}
 use Rattle.actions.specs.Actions.{Act, act, bare, writeAt, putAct}
 use Rattle.actions.specs.Laws.{write-none, write-then, put-in, length-put, room-start, room-turn}
@@ -213,10 +213,6 @@ scan-same p q e from to = scanFor-same p q e (to - from) from
 pub passes-status : (w : Window) (status from to : ℕ) → scan (passes w 0 status) from to ≡ scan (λ i. leb status (slotAt w i .status)) from to
 passes-status w status = scan-same (passes w 0 status) (λ i. leb status (slotAt w i .status)) (λ i. rw (le-leb 0 (slotAt w i .ballot) (omega arith)))
 
-pub firstOpen-stop : (w : Window) → firstOpen w ≡ scan (passes w 0 3) 0 (w .len)
-unfolding firstOpen
-firstOpen-stop w = sym (passes-status w 3 0 (w .len))
-
 pub markStop-stop : (w : Window) (ballot from to : ℕ) → markStop w ballot from to ≡ scan (passes w ballot 2) from to
 unfolding markStop
 markStop-stop w ballot from to = refl
@@ -237,6 +233,11 @@ markStop-low w ballot from to = scan-low (passes w ballot 2) from to
 pub markStop-within : (w : Window) (ballot from to : ℕ) → from ≤ to → markStop w ballot from to ≤ to
 unfolding markStop
 markStop-within w ballot from to h = scan-high (passes w ballot 2) from to h
+
+pub markStop-may : (w : Window) (ballot from to j : ℕ) → from ≤ j → j < markStop w ballot from to → 2 ≤ slotAt w j .status
+unfolding markStop
+markStop-may w ballot from to j a b =
+    leb-true 2 (slotAt w j .status) (and-right (leb ballot (slotAt w j .ballot)) _ (scan-passed (passes w ballot 2) from to j a b))
 
 pub lastUsed-within : (w : Window) → w .len ≤ 64 → lastUsed w < 64
 unfolding lastUsed

@@ -1,5 +1,7 @@
 pub mod Window
 pub mod Acts
+pub mod Summary
+pub mod Kept
 pub mod Sweeps
 pub mod Bounded
 pub mod Laws
@@ -7,3 +9,6 @@ pub mod BoundedLaws
 pub mod RangeLaws
 pub mod Places
 pub mod ByPlace
+pub mod SummaryLaws
+pub mod KeptLaws
+pub mod Rising

@@ -1,5 +1,5 @@
 -- The test of a range, and a sweep or promises of one that passes it and of one that does not.
-use mathlib.Core.Path.{_≡_, sym, ap, _∙_}
+use mathlib.Core.Path.{_≡_, refl, sym, ap, _∙_}
 use mathlib.Core.Bool.{true, false, and-false}
 use mathlib.Core.Logic.{⊎-elim}
 use mathlib.Core.List.{List, []}
@@ -9,15 +9,17 @@ use native.Mathlib.Omega.{arith}
 use lib.Dec.{leb}
 use lib.ListN.{length}
 use borrow.Author.Tests.{le-leb, lt-leb, leb-true}
-use Rattle.base.specs.Pick.{coincide, pick, and-both, decide, tests}
-use Rattle.base.specs.Gather.{gather, gather-none}
+use Rattle.base.specs.Pick.{coincide, pick, pick-both, and-both, decide, tests}
+use Rattle.base.specs.Over.{over-self}
+use Rattle.base.specs.Gather.{gather, gather-none, gather-self}
 use Rattle.actions.specs.Actions.{Act, writeAt}
 use Rattle.actions.specs.Laws.{write-none}
 use Rattle.slots.specs.declared.Slot.{Slot}
+use Rattle.slots.specs.Slots.{noSlot}
 use Rattle.window.specs.declared.Window.{Window}
 use Rattle.window.specs.declared.Placed.{Placed}
-use Rattle.window.specs.Window.{sweep}
-use Rattle.window.specs.Sweeps.{sweepActs, ranged, Ranged, Swept, SweptIn, Promises, PromisesIn}
+use Rattle.window.specs.Window.{slotAt, sweep}
+use Rattle.window.specs.Sweeps.{sweepActs, sweptActs, sweptWindow, ranged, Ranged, Swept, SweptIn, Promises, PromisesIn}
 use Rattle.window.specs.Laws.{promisesOf, promises-many}
 
 -- each test of it that fails, and the last where the others have passed
@@ -70,6 +72,15 @@ module _ (f : ℕ → Slot → Slot) (g : ℕ → Slot → List Act) (from to k 
   module _ (p : Placed) (after : List ℕ) where
     pub swept-all : ranged from to k (length room) start ≡ true → Swept f g from to k w room p after → SweptIn f g from to k start w room p after
     swept-all e s = record { handed = rw (e, ← s .next, ← s .window); few = s .few; written = rw e (s .written) }
+
+-- an empty range does nothing, whether or not it passes the test
+module _ (f : ℕ → Slot → Slot) (g : ℕ → Slot → List Act) (j k start : ℕ) (w : Window) (room : List ℕ) where
+  pub swept-self : SweptIn f g j j k start w room (record { next = k; window = w }) room
+  swept-self =
+      let t = ranged j j k (length room) start in
+      let a : sweptActs f g j j k start w room ≡ [] = pick-both (λ (x : List Act). x ≡ []) t (gather-self (λ i. g i (slotAt w i)) j) refl in
+      let b : sweptWindow f g j j k start w room ≡ w = pick-both (λ (x : Window). x ≡ w) t (rw (over-self f noSlot j (w .slots))) refl in
+      record { handed = rw (a, b, add-zero k); few = omega arith; written = rw (a, write-none room k) }
 
 -- any two outcomes that the promise allows coincide, of a sweep and of promises
 pub swept-unique : {f : ℕ → Slot → Slot} {g : ℕ → Slot → List Act} {from to k start : ℕ} {w : Window} {room after after′ : List ℕ} {p p′ : Placed}

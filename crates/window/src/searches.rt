@@ -3,7 +3,7 @@ ghost use mathlib.Core.Path.{_≡_};
 ghost use Rattle.base.specs.Pick.{pick, larger};
 ghost use Rattle.slots.specs.Slots.{nullSlot, appendedSlot};
 ghost use Rattle.window.specs.Window.{noSlots};
-ghost use Rattle.window.specs.Bounded.{filledIn, lastUsedIn, lastOpenIn, anyAboveIn, stopIn, executedIn, fitIn};
+ghost use Rattle.window.specs.Bounded.{filledIn, lastUsedIn, lastOpenIn, anyAboveIn, stopIn, executedIn};
 use super::Window;
 use slots::LeaderBook;
 use slots::appended_slot;
@@ -21,7 +21,7 @@ pub fn no_slots() -> Window
 }
 
 // One of two places, by a test.
-pub fn chosen(test: bool, a: usize, b: usize) -> usize
+pub(crate) fn chosen(test: bool, a: usize, b: usize) -> usize
     ensures { λ r. ⌜ r ≡ pick test a b ⌝ }
 {
     if test { a } else { b }
@@ -158,21 +158,5 @@ impl Window {
             i += 1;
         }
         i
-    }
-
-    // Whether every slot in use is fit.
-    pub fn is_fit(self, group: u64) -> bool
-        ensures { λ r. ⌜ r ≡ fitIn group self ⌝ }
-    {
-        if 64 < self.len {
-            return false;
-        }
-        for i in 0..self.len {
-            let s = self.slots[i];
-            if !s.is_fit(group) {
-                return false;
-            }
-        }
-        true
     }
 }
