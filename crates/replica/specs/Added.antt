@@ -14,13 +14,13 @@ use Rattle.window.specs.declared.Window.{Window}
 use Rattle.window.specs.Window.{slotAt, putSlot, grown}
 use Rattle.replica.specs.declared.Replica.{Replica}
 use Rattle.replica.specs.Record.{Outcome, kept, settled, withWindow, place, number, logEnd}
-use Rattle.replica.specs.Fit.{ready}
+use Rattle.replica.specs.Fit.{ready, unready}
 use Rattle.replica.specs.Messages.{clean}
 
 -- "Offer: appends a slot in Accepting at bal_prepared"
 unfoldable pub offerStep : Replica → ℕ → Batch → Outcome
 offerStep r room b =
-    pick (not (ready r room)) (kept 1 r)
+    pick (not (ready r room)) (kept (unready r room) r)
     (pick (not (isBatch (b .id) (b .count))) (kept 10 r)
     (pick (not (mayOffer (r .sc))) (kept 9 r)
     (pick (leb 64 (r .window .len)) (kept 5 r)
@@ -37,7 +37,7 @@ movedExec r w =
 -- "Executed: ignored below start; a Committed slot becomes Executed, other statuses stay"
 unfoldable pub executedStep : Replica → ℕ → ℕ → Outcome
 executedStep r room slot =
-    pick (not (ready r room)) (kept 1 r)
+    pick (not (ready r room)) (kept (unready r room) r)
     (pick (ltb slot (r .sc .start)) (kept 0 r)
     (pick (leb (logEnd r) slot) (kept 4 r)
     (record {

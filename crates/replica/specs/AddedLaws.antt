@@ -1,9 +1,11 @@
 -- The laws of the added calls: each way through offer and executed.
-use mathlib.Core.Path.{_≡_, _∙_}
+use mathlib.Core.Path.{_≡_, refl, _∙_}
 use mathlib.Core.Bool.{true, false, not}
+use mathlib.Core.List.{List}
 use Prim.Native.Nat.{ℕ, _+_, _-_, _≤_, _<_}
 use native.Mathlib.Omega.{arith}
 use lib.Dec.{ltb, leb, eqb}
+use lib.ListN.{length}
 use borrow.Author.Tests.{lt-ltb, le-ltb, le-leb, lt-leb}
 use Rattle.base.specs.Pick.{pick}
 use Rattle.base.specs.Scan.{scan-high}
@@ -15,14 +17,20 @@ use Rattle.decide.specs.declared.Scalars.{Scalars}
 use Rattle.decide.specs.declared.Decided.{Decided}
 use Rattle.decide.specs.Scalars.{withBars}
 use Rattle.decide.specs.Decide.{mayOffer, decideOffer}
+use Rattle.decide.specs.Laws.{settles-offer}
 use Rattle.window.specs.declared.Window.{Window}
 use Rattle.window.specs.Window.{slotAt, putSlot, grown}
+use Rattle.window.specs.SummaryLaws.{sums-steady, sums-executed}
 use Rattle.window.specs.Bounded.{filledIn, executedIn}
 use Rattle.window.specs.BoundedLaws.{filled-in, executed-in}
 use Rattle.replica.specs.declared.Replica.{Replica}
 use Rattle.replica.specs.Record.{Outcome, kept, settled, withWindow, logEnd}
 use Rattle.replica.specs.Fit.{ready}
-use Rattle.replica.specs.AdmitLaws.{Ready, unready-kept, ready-goes}
+use Rattle.replica.specs.AdmitLaws.{Ready, gate-ready, gate-shut, ready-goes}
+use Rattle.replica.specs.Admit.{readyAnswer}
+use Rattle.replica.specs.Acting.{SettleFits}
+use Rattle.replica.specs.ActingLaws.{Summed}
+use Rattle.replica.specs.MessageLaws.{grown-fits, grown-sums, grown-has}
 use Rattle.replica.specs.Messages.{clean}
 use Rattle.replica.specs.Added.{offerStep, movedExec, executedStep}
 use Rattle.replica.specs.AddedFits.{ExecFits}
@@ -36,9 +44,9 @@ module _ (r : Replica) (room : ℕ) (b : Batch) where
       (pick (leb 64 (r .window .len)) (kept 5 r)
       (settled r (grown (r .window) (r .window .len + 1)) (r .window .len) (logEnd r) (decideOffer (r .sc) (logEnd r) (clean b)))))
 
-  pub offer-unready : ready r room ≡ false → offerStep r room b ≡ kept 1 r
+  pub offer-unready : (n : ℕ) → n ≡ readyAnswer r room → (n ≡ 0 → ⊥) → offerStep r room b ≡ kept n r
   unfolding offerStep
-  offer-unready e = unready-kept r room offer-tests e
+  offer-unready n e h = gate-shut (readyAnswer r room) n r offer-tests (gate-ready r room offer-tests) e h
 
   module _ (e : ready r room ≡ true) where
     offer-goes : offerStep r room b ≡ offer-tests
@@ -87,9 +95,9 @@ module _ (r : Replica) (room slot : ℕ) where
       (pick (leb (logEnd r) slot) (kept 4 r)
       (kept 0 (movedExec r (putSlot (r .window) (slot - r .sc .start) (executedSlot (slotAt (r .window) (slot - r .sc .start)))))))
 
-  pub executed-unready : ready r room ≡ false → executedStep r room slot ≡ kept 1 r
+  pub executed-unready : (n : ℕ) → n ≡ readyAnswer r room → (n ≡ 0 → ⊥) → executedStep r room slot ≡ kept n r
   unfolding executedStep
-  executed-unready e = unready-kept r room executed-tests e
+  executed-unready n e h = gate-shut (readyAnswer r room) n r executed-tests (gate-ready r room executed-tests) e h
 
   module _ (e : ready r room ≡ true) where
     executed-goes : executedStep r room slot ≡ executed-tests
@@ -105,6 +113,29 @@ module _ (r : Replica) (room slot : ℕ) where
     pub executed-moves : r .sc .start ≤ slot → slot < logEnd r → (s : Slot) (p : Replica) → s ≡ executedSlot (slotAt (r .window) (slot - r .sc .start))
         → p ≡ movedExec r (putSlot (r .window) (slot - r .sc .start) s) → executedStep r room slot ≡ kept 0 p
     executed-moves h l s p a q = executed-goes ∙ rw (le-ltb slot (r .sc .start) h, lt-leb (logEnd r) slot l, q, a)
+
+-- the log with the slot that the batch takes
+pub offer-fits : {w : Window} {d : Decided} (r : Replica) (slot : ℕ) (b : Batch) (room : List ℕ) → Ready r (length room) → r .window .len < 64
+    → w ≡ filledIn nullSlot (r .window) (r .window .len + 1) → slot ≡ r .sc .start + r .window .len → d ≡ decideOffer (r .sc) slot b
+    → SettleFits r w (r .window .len) slot d room
+offer-fits {w} {d} r slot b room f h e n q =
+    record {
+      low = h;
+      long = f .long;
+      within = grown-fits (r .window) (r .window .len + 1) e (f .within) (omega arith);
+      here = grown-has (r .window) (r .window .len) e h;
+      named = n;
+      start = f .low;
+      commit = omega (arith, f .exec-low, f .exec-high);
+      settles = rw q (settles-offer (r .sc) (slotAt w (r .window .len)) slot b);
+      sum = grown-sums r (r .window .len + 1) (length room) f e (omega arith);
+    }
+
+-- exec_bar moves, and a Committed slot is Executed: the summary stays
+pub executed-sums : {r p : Replica} (i room : ℕ) (s : Slot) → Ready r room → s ≡ executedSlot (slotAt (r .window) i) → p ≡ movedExec r (putSlot (r .window) i s) → Summed p
+unfolding movedExec
+executed-sums {r} {p} i room s f e q =
+    rw (q, e) (sums-steady (r .sc) _ _ (r .summary) refl refl (sums-executed (r .sc) (r .window) (r .summary) i (f .sum)))
 
 -- a fit record's bars
 pub exec-fits : {r : Replica} {room : ℕ} → Ready r room → ExecFits r

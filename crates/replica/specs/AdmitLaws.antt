@@ -1,64 +1,81 @@
 -- The laws of the first tests: as one number they are a call's first test, and 0 tells what the call may count on.
 use mathlib.Core.Path.{_≡_, refl, sym, ap, _∙_}
-use mathlib.Core.Bool.{Bool, true, false, not, _||_}
+use mathlib.Core.Bool.{Bool, true, false, not, _&&_, _||_, and-false}
 use Prim.Native.Nat.{ℕ, _+_, _≤_, _<_}
 use native.Mathlib.Omega.{arith}
 use lib.Dec.{ltb, leb, eqb}
-use borrow.Author.Tests.{not-true, not-false, lt-ltb, le-ltb, le-leb, lt-leb, eq-eqb, ne-eqb, leb-true, ltb-true, eqb-false}
-use Rattle.base.specs.Pick.{pick, pick-zero, and-left, and-both}
+use borrow.Author.Tests.{not-true, not-false, lt-ltb, le-ltb, le-leb, lt-leb, eq-eqb, ne-eqb, leb-true, ltb-true, eqb-true, eqb-false}
+use Rattle.base.specs.Pick.{pick, pick-zero, and-left, and-both, and-make, clash}
 use Rattle.members.specs.Groups.{groupSize}
 use Rattle.members.specs.Ballots.{owns}
 use Rattle.members.specs.Laws.{group-bounds}
 use Rattle.tally.specs.Open.{fitReads}
 use Rattle.decide.specs.Scalars.{isMember, isPeer, fitScalars}
 use Rattle.window.specs.Window.{fitSlots}
+use Rattle.window.specs.Summary.{walk}
+use Rattle.window.specs.SummaryLaws.{Sums}
 use Rattle.replica.specs.declared.Replica.{Replica}
 use Rattle.replica.specs.Record.{Outcome, kept}
-use Rattle.replica.specs.Fit.{fit, ready}
-use Rattle.replica.specs.Admit.{fromMember, fromPeer, fromOwner}
+use Rattle.replica.specs.Fit.{fit, roomy, sums, usable, ready, unready}
+use Rattle.replica.specs.Admit.{readyAnswer, fromMember, fromPeer, fromOwner}
 
 -- ── one number is tested first ──
 
--- three refusals in a row are one, by the first that holds
-three : (a b c : Bool) (r : Replica) (o : Outcome)
-    → pick a (kept 1 r) (pick b (kept 2 r) (pick c (kept 3 r) o))
-    ≡ pick (not (eqb (pick a 1 (pick b 2 (pick c 3 0))) 0)) (kept (pick a 1 (pick b 2 (pick c 3 0))) r) o
-three true b c r o = refl
-three false true c r o = refl
-three false false true r o = refl
-three false false false r o = refl
+-- the number of the first test that fails: 14 where the record is fit, else 1
+abbrev first : Bool → ℕ
+first t = pick t 14 1
 
-two : (a b : Bool) (r : Replica) (o : Outcome)
-    → pick a (kept 1 r) (pick b (kept 2 r) o) ≡ pick (not (eqb (pick a 1 (pick b 2 0)) 0)) (kept (pick a 1 (pick b 2 0)) r) o
-two true b r o = refl
-two false true r o = refl
-two false false r o = refl
+-- up to three refusals in a row are one, by the first that holds; the first has one of two numbers
+three : (t a b c : Bool) (r : Replica) (o : Outcome)
+    → pick a (kept (first t) r) (pick b (kept 2 r) (pick c (kept 3 r) o))
+    ≡ pick (not (eqb (pick a (first t) (pick b 2 (pick c 3 0))) 0)) (kept (pick a (first t) (pick b 2 (pick c 3 0))) r) o
+three true true b c r o = refl
+three false true b c r o = refl
+three t false true c r o = refl
+three t false false true r o = refl
+three t false false false r o = refl
+
+two : (t a b : Bool) (r : Replica) (o : Outcome)
+    → pick a (kept (first t) r) (pick b (kept 2 r) o)
+    ≡ pick (not (eqb (pick a (first t) (pick b 2 0)) 0)) (kept (pick a (first t) (pick b 2 0)) r) o
+two true true b r o = refl
+two false true b r o = refl
+two t false true r o = refl
+two t false false r o = refl
+
+only : (t a : Bool) (r : Replica) (o : Outcome)
+    → pick a (kept (first t) r) o ≡ pick (not (eqb (pick a (first t) 0) 0)) (kept (pick a (first t) 0) r) o
+only true true r o = refl
+only false true r o = refl
+only t false r o = refl
 
 module _ (r : Replica) (room : ℕ) where
   pub gate-owner : (peer ballot : ℕ) (o : Outcome)
-      → pick (not (ready r room)) (kept 1 r) (pick (not (isPeer (r .sc) peer)) (kept 2 r) (pick (not (owns ballot peer)) (kept 3 r) o))
+      → pick (not (ready r room)) (kept (unready r room) r) (pick (not (isPeer (r .sc) peer)) (kept 2 r) (pick (not (owns ballot peer)) (kept 3 r) o))
       ≡ pick (not (eqb (fromOwner r room peer ballot) 0)) (kept (fromOwner r room peer ballot) r) o
   unfolding fromOwner
-  gate-owner peer ballot o = three (not (ready r room)) (not (isPeer (r .sc) peer)) (not (owns ballot peer)) r o
+  gate-owner peer ballot o = three (roomy room && fit r) (not (ready r room)) (not (isPeer (r .sc) peer)) (not (owns ballot peer)) r o
 
   pub gate-peer : (peer : ℕ) (o : Outcome)
-      → pick (not (ready r room)) (kept 1 r) (pick (not (isPeer (r .sc) peer)) (kept 2 r) o)
+      → pick (not (ready r room)) (kept (unready r room) r) (pick (not (isPeer (r .sc) peer)) (kept 2 r) o)
       ≡ pick (not (eqb (fromPeer r room peer) 0)) (kept (fromPeer r room peer) r) o
   unfolding fromPeer
-  gate-peer peer o = two (not (ready r room)) (not (isPeer (r .sc) peer)) r o
+  gate-peer peer o = two (roomy room && fit r) (not (ready r room)) (not (isPeer (r .sc) peer)) r o
 
   pub gate-member : (member : ℕ) (o : Outcome)
-      → pick (not (ready r room)) (kept 1 r) (pick (not (isMember (r .sc) member)) (kept 2 r) o)
+      → pick (not (ready r room)) (kept (unready r room) r) (pick (not (isMember (r .sc) member)) (kept 2 r) o)
       ≡ pick (not (eqb (fromMember r room member) 0)) (kept (fromMember r room member) r) o
   unfolding fromMember
-  gate-member member o = two (not (ready r room)) (not (isMember (r .sc) member)) r o
+  gate-member member o = two (roomy room && fit r) (not (ready r room)) (not (isMember (r .sc) member)) r o
 
   -- and where only the room and the record are tested
-  pub unready-kept : (o : Outcome) → ready r room ≡ false → pick (not (ready r room)) (kept 1 r) o ≡ kept 1 r
-  unready-kept o e = ap (λ (t : Bool). pick (not t) (kept 1 r) o) e
+  pub gate-ready : (o : Outcome)
+      → pick (not (ready r room)) (kept (unready r room) r) o ≡ pick (not (eqb (readyAnswer r room) 0)) (kept (readyAnswer r room) r) o
+  unfolding readyAnswer
+  gate-ready o = only (roomy room && fit r) (not (ready r room)) r o
 
-  pub ready-goes : (o : Outcome) → ready r room ≡ true → pick (not (ready r room)) (kept 1 r) o ≡ o
-  ready-goes o e = ap (λ (t : Bool). pick (not t) (kept 1 r) o) e
+  pub ready-goes : (o : Outcome) → ready r room ≡ true → pick (not (ready r room)) (kept (unready r room) r) o ≡ o
+  ready-goes o e = ap (λ (t : Bool). pick (not t) (kept (unready r room) r) o) e
 
 -- the two ways on from such a test, with the number n that the code has of it
 pub gate-shut : {p : Outcome} (a n : ℕ) (r : Replica) (o : Outcome) → p ≡ pick (not (eqb a 0)) (kept a r) o → n ≡ a → (n ≡ 0 → ⊥) → p ≡ kept n r
@@ -69,49 +86,109 @@ gate-open a n r o e f h = e ∙ rw (← f, eq-eqb n 0 h)
 
 -- ── each way through the code that makes the number ──
 
--- 1 and 2, else the number n
-abbrev two-tests : Bool → Bool → ℕ → ℕ
-two-tests a b n = pick a 1 (pick b 2 n)
-
 module _ (r : Replica) (room : ℕ) where
-  pub unready-room : room < 3456 → false ≡ ready r room
-  unready-room h = rw (lt-leb 3456 room h)
+  ready-parts : roomy room ≡ true → fit r ≡ true → sums r ≡ ready r room
+  ready-parts a b = rw (a, b)
 
-  pub ready-last : 3456 ≤ room → fit r ≡ ready r room
+  -- 1: the room or the record
+  one-first : (t u : Bool) → (t && u) ≡ false → (v : Bool) → 1 ≡ pick (not (t && (u && v))) (first (t && u)) 0
+  one-first true true e v = absurd (clash refl e)
+  one-first true false e v = refl
+  one-first false u e v = refl
+
+  pub answer-short : room < 3456 → 1 ≡ readyAnswer r room
+  unfolding readyAnswer
+  answer-short h = one-first (roomy room) (fit r) (rw (lt-leb 3456 room h)) (sums r)
+
+  module _ (h : 3456 ≤ room) where
+    pub answer-unfit : false ≡ fit r → 1 ≡ readyAnswer r room
+    unfolding readyAnswer
+    answer-unfit e = one-first (roomy room) (fit r) (rw (← e, and-false (roomy room))) (sums r)
+
+    -- 14: the summary
+    pub answer-unsummed : fit r ≡ true → sums r ≡ false → 14 ≡ readyAnswer r room
+    unfolding readyAnswer
+    answer-unsummed e f = go (roomy room) (fit r) (sums r) (le-leb 3456 room h) e f
+      where
+        go : (t u v : Bool) → t ≡ true → u ≡ true → v ≡ false → 14 ≡ pick (not (t && (u && v))) (first (t && u)) 0
+        go true true false a b c = refl
+        go true true true a b c = absurd (clash refl c)
+        go true false v a b c = absurd (clash b refl)
+        go false u v a b c = absurd (clash a refl)
+
+    pub answer-ready : fit r ≡ true → sums r ≡ true → 0 ≡ readyAnswer r room
+    unfolding readyAnswer
+    answer-ready e f = sym (ap (λ (t : Bool). pick (not t) (unready r room) 0) (and-make (le-leb 3456 room h) (and-make e f)))
+
+  pub ready-last : 3456 ≤ room → usable r ≡ ready r room
   ready-last h = rw (le-leb 3456 room h)
 
+  pub ready-zero : ready r room ≡ true → readyAnswer r room ≡ 0
+  unfolding readyAnswer
+  ready-zero e = ap (λ (t : Bool). pick (not t) (unready r room) 0) e
+
+  -- the number as the code has it
+  pub ready-by : {n : ℕ} → n ≡ readyAnswer r room → n ≡ 0 → ready r room ≡ true
+  unfolding readyAnswer
+  ready-by e z = not-false (ready r room) (pick-none (not (ready r room)) (roomy room && fit r) (sym e ∙ z))
+    where
+      pick-none : (a t : Bool) → pick a (first t) 0 ≡ 0 → a ≡ false
+      pick-none true true q = absurd (omega arith)
+      pick-none true false q = absurd (omega arith)
+      pick-none false t q = refl
+
+-- the number of the first tests, then 2, else the number n
+abbrev then-two : Bool → ℕ → Bool → ℕ → ℕ
+then-two a m b n = pick a m (pick b 2 n)
+
+module _ (r : Replica) (room : ℕ) where
+  unready-first : (a b : Bool) (n : ℕ) → (pick a (unready r room) 0 ≡ 0 → ⊥) → pick a (unready r room) 0 ≡ then-two a (unready r room) b n
+  unready-first true b n h = refl
+  unready-first false b n h = absurd (h refl)
+
+  ready-then : (a b : Bool) (n : ℕ) → pick a (unready r room) 0 ≡ 0 → pick b 2 n ≡ then-two a (unready r room) b n
+  ready-then true b n e = absurd (go (roomy room && fit r) e)
+    where
+      go : (t : Bool) → first t ≡ 0 → ⊥
+      go true q = omega arith
+      go false q = omega arith
+  ready-then false b n e = refl
+
   module _ (member : ℕ) where
-    pub member-unready : ready r room ≡ false → 1 ≡ fromMember r room member
-    unfolding fromMember
-    member-unready e = sym (ap (λ (t : Bool). two-tests (not t) (not (isMember (r .sc) member)) 0) e)
+    pub member-unready : (readyAnswer r room ≡ 0 → ⊥) → readyAnswer r room ≡ fromMember r room member
+    unfolding fromMember readyAnswer
+    member-unready h = unready-first (not (ready r room)) (not (isMember (r .sc) member)) 0 h
 
-    pub member-none : ready r room ≡ true → r .sc .group ≤ member → 2 ≡ fromMember r room member
-    unfolding fromMember
-    member-none e h = sym (ap (λ (t : Bool). two-tests (not t) (not (isMember (r .sc) member)) 0) e ∙ rw (le-ltb member (r .sc .group) h))
+    pub member-none : readyAnswer r room ≡ 0 → r .sc .group ≤ member → 2 ≡ fromMember r room member
+    unfolding fromMember readyAnswer
+    member-none e h =
+        sym (ap (λ (t : Bool). pick (not t) 2 0) (le-ltb member (r .sc .group) h)) ∙ ready-then (not (ready r room)) (not (isMember (r .sc) member)) 0 e
 
-    pub member-some : ready r room ≡ true → member < r .sc .group → 0 ≡ fromMember r room member
-    unfolding fromMember
-    member-some e h = sym (ap (λ (t : Bool). two-tests (not t) (not (isMember (r .sc) member)) 0) e ∙ rw (lt-ltb member (r .sc .group) h))
+    pub member-some : readyAnswer r room ≡ 0 → member < r .sc .group → 0 ≡ fromMember r room member
+    unfolding fromMember readyAnswer
+    member-some e h =
+        sym (ap (λ (t : Bool). pick (not t) 2 0) (lt-ltb member (r .sc .group) h)) ∙ ready-then (not (ready r room)) (not (isMember (r .sc) member)) 0 e
 
   module _ (peer : ℕ) where
-    pub peer-unready : ready r room ≡ false → 1 ≡ fromPeer r room peer
-    unfolding fromPeer
-    peer-unready e = sym (ap (λ (t : Bool). two-tests (not t) (not (isPeer (r .sc) peer)) 0) e)
+    pub peer-unready : (readyAnswer r room ≡ 0 → ⊥) → readyAnswer r room ≡ fromPeer r room peer
+    unfolding fromPeer readyAnswer
+    peer-unready h = unready-first (not (ready r room)) (not (isPeer (r .sc) peer)) 0 h
 
-    pub peer-none : ready r room ≡ true → isPeer (r .sc) peer ≡ false → 2 ≡ fromPeer r room peer
-    unfolding fromPeer
-    peer-none e f = sym (ap (λ (t : Bool). two-tests (not t) (not (isPeer (r .sc) peer)) 0) e ∙ ap (λ (t : Bool). two-tests false (not t) 0) f)
+    pub peer-none : readyAnswer r room ≡ 0 → isPeer (r .sc) peer ≡ false → 2 ≡ fromPeer r room peer
+    unfolding fromPeer readyAnswer
+    peer-none e f = sym (ap (λ (t : Bool). pick (not t) 2 0) f) ∙ ready-then (not (ready r room)) (not (isPeer (r .sc) peer)) 0 e
 
-    pub peer-some : ready r room ≡ true → isPeer (r .sc) peer ≡ true → 0 ≡ fromPeer r room peer
-    unfolding fromPeer
-    peer-some e f = sym (ap (λ (t : Bool). two-tests (not t) (not (isPeer (r .sc) peer)) 0) e ∙ ap (λ (t : Bool). two-tests false (not t) 0) f)
+    pub peer-some : readyAnswer r room ≡ 0 → isPeer (r .sc) peer ≡ true → 0 ≡ fromPeer r room peer
+    unfolding fromPeer readyAnswer
+    peer-some e f = sym (ap (λ (t : Bool). pick (not t) 2 0) f) ∙ ready-then (not (ready r room)) (not (isPeer (r .sc) peer)) 0 e
 
     module _ (ballot : ℕ) where
       pub owner-first : (fromPeer r room peer ≡ 0 → ⊥) → fromPeer r room peer ≡ fromOwner r room peer ballot
       unfolding fromPeer fromOwner
       owner-first h = go (not (ready r room)) (not (isPeer (r .sc) peer)) h
         where
-          go : (a b : Bool) → (two-tests a b 0 ≡ 0 → ⊥) → two-tests a b 0 ≡ two-tests a b (pick (not (owns ballot peer)) 3 0)
+          go : (a b : Bool) → (then-two a (unready r room) b 0 ≡ 0 → ⊥)
+              → then-two a (unready r room) b 0 ≡ then-two a (unready r room) b (pick (not (owns ballot peer)) 3 0)
           go true b h = refl
           go false true h = refl
           go false false h = absurd (h refl)
@@ -120,8 +197,13 @@ module _ (r : Replica) (room : ℕ) where
       unfolding fromPeer fromOwner
       owner-then e = go (not (ready r room)) (not (isPeer (r .sc) peer)) e
         where
-          go : (a b : Bool) → two-tests a b 0 ≡ 0 → pick (not (owns ballot peer)) 3 0 ≡ two-tests a b (pick (not (owns ballot peer)) 3 0)
-          go true b e = absurd (omega arith)
+          number : (t : Bool) → first t ≡ 0 → ⊥
+          number true q = omega arith
+          number false q = omega arith
+
+          go : (a b : Bool) → then-two a (unready r room) b 0 ≡ 0
+              → pick (not (owns ballot peer)) 3 0 ≡ then-two a (unready r room) b (pick (not (owns ballot peer)) 3 0)
+          go true b e = absurd (number (roomy room && fit r) e)
           go false true e = absurd (omega arith)
           go false false e = refl
 
@@ -151,12 +233,15 @@ pub record Ready (r : Replica) (room : ℕ) : Type 0 where
   pub reads-few : r .reads .count ≤ 16
   pub slots-fit : fitSlots (r .sc .group) (r .window) ≡ true
   pub reads-fit : fitReads (r .sc .group) (r .reads) ≡ true
+  pub sum : Sums (r .sc) (r .window) (r .summary)
 
 pub ready-facts : (r : Replica) (room : ℕ) → ready r room ≡ true → Ready r room
 unfolding fit fitScalars fitReads
 ready-facts r room e =
     let p1 = and-both (leb 3456 room) _ e in
-    let q1 = and-both (fitScalars (r .sc) (r .window .len)) _ (p1 .1) in
+    let p2 = and-both (fit r) _ (p1 .1) in
+    let p3 = and-both (eqb (r .summary .first) (walk (r .sc) (r .window) .first)) _ (p2 .1) in
+    let q1 = and-both (fitScalars (r .sc) (r .window .len)) _ (p2 .0) in
     let q2 = and-both (fitSlots (r .sc .group) (r .window)) _ (q1 .1) in
     let q3 = and-both (leb (r .keys .count) 256) _ (q2 .1) in
     let f1 = and-both (groupSize (r .sc .group)) _ (q1 .0) in
@@ -186,6 +271,7 @@ ready-facts r room e =
       reads-few = leb-true _ _ (and-left (leb (r .reads .count) 16) _ (q3 .1));
       slots-fit = q2 .0;
       reads-fit = q3 .1;
+      sum = record { first = eqb-true _ _ (p3 .0); accepting = eqb-true _ _ (p3 .1) };
     }
 
 -- a call from a member
@@ -208,10 +294,19 @@ pub record FromOwner (r : Replica) (room peer ballot : ℕ) : Type 0 where
   pub sender : FromPeer r room peer
   pub owned : owns ballot peer ≡ true
 
+-- where the number is 0 the first tests have passed
+first-zero : (r : Replica) (room y : ℕ) → pick (not (ready r room)) (unready r room) y ≡ 0 → (not (ready r room) ≡ false) × (y ≡ 0)
+first-zero r room y e = go (not (ready r room)) (roomy room && fit r) e
+  where
+    go : (a t : Bool) → pick a (first t) y ≡ 0 → (a ≡ false) × (y ≡ 0)
+    go true true q = absurd (omega arith)
+    go true false q = absurd (omega arith)
+    go false t q = (refl, q)
+
 pub member-facts : (r : Replica) (room member : ℕ) → fromMember r room member ≡ 0 → FromMember r room member
 unfolding fromMember
 member-facts r room member e =
-    let p1 = pick-zero (not (ready r room)) 0 _ e in
+    let p1 = first-zero r room _ e in
     let p2 = pick-zero (not (isMember (r .sc) member)) 1 _ (p1 .1) in
     let f = not-false (ready r room) (p1 .0) in
     let k = not-false (isMember (r .sc) member) (p2 .0) in
@@ -226,14 +321,14 @@ peer-known r room peer f k =
 pub peer-facts : (r : Replica) (room peer : ℕ) → fromPeer r room peer ≡ 0 → FromPeer r room peer
 unfolding fromPeer
 peer-facts r room peer e =
-    let p1 = pick-zero (not (ready r room)) 0 _ e in
+    let p1 = first-zero r room _ e in
     let p2 = pick-zero (not (isPeer (r .sc) peer)) 1 _ (p1 .1) in
     peer-known r room peer (not-false (ready r room) (p1 .0)) (not-false (isPeer (r .sc) peer) (p2 .0))
 
 pub owner-facts : (r : Replica) (room peer ballot : ℕ) → fromOwner r room peer ballot ≡ 0 → FromOwner r room peer ballot
 unfolding fromOwner
 owner-facts r room peer ballot e =
-    let p1 = pick-zero (not (ready r room)) 0 _ e in
+    let p1 = first-zero r room _ e in
     let p2 = pick-zero (not (isPeer (r .sc) peer)) 1 _ (p1 .1) in
     let p3 = pick-zero (not (owns ballot peer)) 2 _ (p2 .1) in
     record {

@@ -1,17 +1,17 @@
 -- The laws of a log completion: each way through its functions, and that a refusal by the entry's handler leaves the room as it was.
-use mathlib.Core.Path.{_≡_, refl, sym, ap, _∙_}
-use mathlib.Core.Bool.{Bool, true, false, not, _&&_, and-false}
+use mathlib.Core.Path.{_≡_, refl, sym, ap, subst, _∙_}
+use mathlib.Core.Bool.{Bool, true, false, not, _&&_, _||_, and-false}
 use mathlib.Core.List.{List, [], _∷_, _++_, append-assoc, append-nil}
 use mathlib.Core.Logic.{⊎-elim}
 use Prim.Native.Nat.{ℕ, zero, suc, _+_, _-_, _≤_, _<_}
 use native.Mathlib.Nat.{add-zero, zero-add, eq-or-lt-of-le}
 use native.Mathlib.Omega.{arith}
-use lib.Dec.{leb, eqb}
+use lib.Dec.{ltb, leb, eqb}
 use lib.ListN.{length, set, length-append}
-use borrow.Author.Tests.{lt-ltb, le-ltb, le-leb, lt-leb, eq-eqb, ne-eqb, eqb-true}
-use Rattle.base.specs.Pick.{pick, pick-both, pick-cases}
+use borrow.Author.Tests.{lt-ltb, le-ltb, le-leb, lt-leb, eq-eqb, ne-eqb, eqb-true, leb-true}
+use Rattle.base.specs.Pick.{pick, pick-both, pick-cases, and-right}
 use Rattle.base.specs.Gather.{gather, gather-none}
-use Rattle.base.specs.Scan.{scan-low, scan-below}
+use Rattle.base.specs.Scan.{scan, scan-low, scan-below, scan-passed}
 use Rattle.batch.specs.declared.Batch.{Batch}
 use Rattle.batch.specs.Keys.{overfull}
 use Rattle.actions.specs.declared.Action.the-variants.{CommitNotice}
@@ -22,14 +22,16 @@ use Rattle.slots.specs.Slots.{loggedSlot, passedSlot}
 use Rattle.decide.specs.declared.Scalars.{Scalars}
 use Rattle.decide.specs.declared.Decided.{Decided}
 use Rattle.decide.specs.declared.Reply.{Reply}
-use Rattle.decide.specs.Scalars.{leads, withBars, withLogSize, notifies}
+use Rattle.decide.specs.Scalars.{leads, withAcceptBar, withBars, withLogSize, notifies}
 use Rattle.decide.specs.Decide.{decidePromised, decideAccepted}
-use Rattle.decide.specs.Laws.{Steady, Settles, done, refused, settles-accepted}
+use Rattle.decide.specs.Laws.{Steady, steady-self, Settles, done, refused, settles-promised, settles-accepted}
 use Rattle.decide.specs.PrepareReply.{ownReply}
 use Rattle.window.specs.declared.Window.{Window}
 use Rattle.window.specs.declared.Placed.{Placed}
 use Rattle.window.specs.Window.{slotAt, putSlot}
 use Rattle.window.specs.Acts.{passActs}
+use Rattle.window.specs.Summary.{walk}
+use Rattle.window.specs.SummaryLaws.{Sums, sums-steady, sums-put-like, sums-moved}
 use Rattle.window.specs.Sweeps.{Swept}
 use Rattle.window.specs.Bounded.{stopIn, passes}
 use Rattle.window.specs.BoundedLaws.{stop-in}
@@ -39,15 +41,17 @@ use Rattle.replica.specs.declared.Handled.{Handled}
 use Rattle.replica.specs.declared.Entry.{Entry}
 use Rattle.replica.specs.declared.Entry.the-variants.{PrepareBal, AcceptData, CommitSlot}
 use Rattle.replica.specs.declared.Done.{Done}
-use Rattle.replica.specs.Record.{Outcome, kept, noting, settled, withWindow, place, number, logEnd}
+use Rattle.replica.specs.Record.{Outcome, kept, noting, settled, summed, withWindow, place, number, logEnd}
 use Rattle.replica.specs.Fit.{ready}
 use Rattle.replica.specs.Messages.{appended, appendActs, tabled, repliedOn, orKept, inRange, replyOn}
 use Rattle.replica.specs.Durability.{preparedDone, movedAccept, thenMoved, acceptedDone, noticeActs, passOn, passStop, committedDone, doneOn, loggedOn, loggedStep}
 use Rattle.replica.specs.Step.{Told}
-use Rattle.replica.specs.AdmitLaws.{Ready, unready-kept, ready-goes}
-use Rattle.replica.specs.ActingLaws.{acted, told}
+use Rattle.replica.specs.AdmitLaws.{Ready, gate-ready, gate-shut, ready-goes}
+use Rattle.replica.specs.Admit.{readyAnswer}
+use Rattle.replica.specs.Acting.{SettleFits}
+use Rattle.replica.specs.ActingLaws.{acted, told, withSummary, summed-refused}
 use Rattle.replica.specs.Replying.{ReplyFits}
-use Rattle.replica.specs.CompletionFits.{BarsFit, DoneFits, PassFits, Wrote}
+use Rattle.replica.specs.CompletionFits.{BarsFit, DoneFits, CommitFits, PassFits, Wrote}
 
 -- ── the notice: what is written, by whether commit_bar stood still and by the test ──
 module _ (sc : Scalars) (bar end : ℕ) (still : Bool) (n : ℕ) (room : List ℕ) where
@@ -99,33 +103,45 @@ module _ (r : Replica) where
 -- ── commit_bar ──
 module _ (r : Replica) (from stop : ℕ) where
   abbrev passedWith : Scalars → Window → Replica
-  passedWith sc w = record { sc = sc; bars = r .bars; window = w; keys = r .keys; reads = r .reads }
+  passedWith sc w = record { sc = sc; bars = r .bars; window = w; keys = r .keys; reads = r .reads; summary = r .summary }
 
   -- as the code has it: the slots passed from the room's front on, then the notice
-  pub passed-told : (p : Placed) (sc : Scalars) (bar end n : ℕ) (room mid after : List ℕ) → bar ≡ r .sc .start + stop → end ≡ logEnd r
+  pub passed-told : (p : Placed) (sc : Scalars) (bar end n : ℕ) (room mid after : List ℕ) → PassFits r from stop room → bar ≡ r .sc .start + stop → end ≡ logEnd r
       → Swept (λ i s. passedSlot s) (λ i s. passActs (r .sc .start + i) s) from stop 0 (r .window) room p mid
       → Wrote (pick (eqb from stop) [] (noticeActs (r .sc) bar end)) (p .next) mid n after
       → sc ≡ withBars (r .sc) (r .sc .«accept_bar») bar (r .sc .«exec_bar»)
-      → Told (passOn r from stop) (record { answer = 0; count = n; replica = passedWith sc (p .window) }) room after
+      → Told (summed (passOn r from stop)) (record { answer = 0; count = n; replica = passedWith sc (p .window) }) room after
   unfolding passOn
-  passed-told p sc bar end n room mid after b e s w f =
+  passed-told p sc bar end n room mid after fits b e s w f =
       let first : List Act = gather (λ i. passActs (number (r .sc) i) (slotAt (r .window) i)) from stop in
       let then : List Act = pick (eqb from stop) [] (noticeActs (r .sc) bar end) in
-      acted (first ++ then) (passedWith sc (p .window)) n refl
+      let sums : Sums sc (p .window) (r .summary) =
+      rw (s .window)
+      (rw (← fits .commit) at
+      (sums-moved (r .sc) sc (r .window) (r .summary) stop (fits .sum) (ap (λ (x : Scalars). x .start) f)
+      (ap (λ (x : Scalars). x .«commit_bar» - x .start) f ∙ omega arith) (omega (arith, fits .ordered, fits .commit)) (fits .present)
+      (λ j x y. fits .closed j (omega (arith, fits .commit)) y))) in
+      acted {o = passOn r from stop} (first ++ then) (passedWith sc (p .window)) (r .summary) n refl
       (w .next ∙ ap (λ (x : ℕ). x + length then) (s .next ∙ zero-add (length first)) ∙ sym (length-append first then))
       (write-then room mid after first then 0 (p .next) (omega arith) (s .next) (s .written) (w .written))
-      (rw (f, s .window, b, e))
+      (rw (f, s .window, b, e)) sums
 
-  pub pass-fits : (to : ℕ) (room : List ℕ) → BarsFit r → 3456 ≤ length room → from ≤ 64 → to ≤ 64 → stop ≡ stopIn (r .window) 0 3 from to
+  pub pass-fits : (to : ℕ) (room : List ℕ) → CommitFits r room → from ≡ r .sc .«commit_bar» - r .sc .start → to ≤ r .window .len → stop ≡ stopIn (r .window) 0 3 from to
       → PassFits r from stop room
-  pass-fits to room f l a b q =
-      let e = q ∙ stop-in (r .window) from to 0 3 b in
+  pass-fits to room commit c b q =
+      let f = commit .bars in
+      let l = commit .long in
+      let e = q ∙ stop-in (r .window) from to 0 3 (omega (arith, f .within)) in
       record {
         low = f .low;
         within = f .within;
         ordered = omega (arith, e, scan-low (passes (r .window) 0 3) from to);
-        high = omega (arith, e, scan-below (passes (r .window) 0 3) from to 64 a b);
+        high = omega (arith, e, f .within, scan-below (passes (r .window) 0 3) from to (r .window .len) (omega (arith, c, f .commit-high)) b);
         long = l;
+        commit = c;
+        present = omega (arith, e, scan-below (passes (r .window) 0 3) from to (r .window .len) (omega (arith, c, f .commit-high)) b);
+        closed = λ j x y. leb-true 3 _ (and-right (leb 0 (slotAt (r .window) j .ballot)) _ (scan-passed (passes (r .window) 0 3) from to j x (omega (arith, e))));
+        sum = commit .sum;
       }
 
 module _ (r : Replica) (slot : ℕ) where
@@ -156,11 +172,30 @@ module _ (r : Replica) (slot : ℕ) where
   pub moved-on : (sc : Scalars) (stop bar : ℕ) → BarsFit r → slot ≡ r .sc .«accept_bar»
       → stop ≡ stopIn (r .window) 0 2 (r .sc .«accept_bar» - r .sc .start) (r .window .len) → bar ≡ r .sc .start + stop
       → sc ≡ withBars (r .sc) bar (r .sc .«commit_bar») (r .sc .«exec_bar»)
-      → record { sc = sc; bars = r .bars; window = r .window; keys = r .keys; reads = r .reads } ≡ movedAccept r slot
+      → record { sc = sc; bars = r .bars; window = r .window; keys = r .keys; reads = r .reads; summary = r .summary } ≡ movedAccept r slot
   unfolding movedAccept
   moved-on sc stop bar fits h e b f =
       let from : ℕ = r .sc .«accept_bar» - r .sc .start in
       rw (eq-eqb slot (r .sc .«accept_bar») h, f, b, e ∙ stop-in (r .window) from (r .window .len) 0 2 (fits .within) ∙ passes-status (r .window) 2 from (r .window .len))
+
+-- the summary is the walk's before accept_bar moves, and after it
+abbrev walked : Replica → Replica
+walked r = withSummary r (walk (r .sc) (r .window))
+
+moved-walked : (r : Replica) (slot : ℕ) → movedAccept (walked r) slot ≡ walked (movedAccept r slot)
+unfolding movedAccept
+moved-walked r slot = go (not (eqb slot (r .sc .«accept_bar»)))
+  where
+    moved : Replica
+    moved =
+        withWindow r
+        (withAcceptBar (r .sc)
+        (number (r .sc) (scan (λ i. leb 2 (slotAt (r .window) i .status)) (place (r .sc) (r .sc .«accept_bar»)) (r .window .len))))
+        (r .window)
+
+    go : (t : Bool) → pick t (walked r) (walked moved) ≡ walked (pick t r moved)
+    go true = refl
+    go false = refl
 
 -- what is settled for one slot leaves the bars and the log as they were
 pub bars-kept : (r p : Replica) → Steady (r .sc) (p .sc) → p .window .len ≡ r .window .len → BarsFit r → BarsFit p
@@ -196,23 +231,31 @@ module _ (r : Replica) (i slot : ℕ) (s : Slot) where
   abbrev settledVote : Outcome
   settledVote = settled r (r .window) i slot (decideAccepted (r .sc) s slot)
 
-  module _ {h : Handled} {room after : List ℕ} (d : Decided) (e : d ≡ decideAccepted (r .sc) s slot) (t : Told (settled r (r .window) i slot d) h room after) where
-    pub accepted-refused : (h .answer ≡ 0 → ⊥) → Told (acceptedDone r i slot s) h room after
+  module _ {h : Handled} {room after : List ℕ} (d : Decided) (e : d ≡ decideAccepted (r .sc) s slot) (t : Told (summed (settled r (r .window) i slot d)) h room after) where
+    pub accepted-refused : (h .answer ≡ 0 → ⊥) → Told (summed (acceptedDone r i slot s)) h room after
     unfolding acceptedDone
     accepted-refused n =
-        let u : Told settledVote h room after = rw e at t in
+        let u : Told (summed settledVote) h room after = rw e at t in
         told (rw (ne-eqb (settledVote .answer) 0 (λ z. n (ap (λ (x : Handled). x .answer) (u .handed) ∙ z)))) u
 
     pub accepted-bars : BarsFit r → BarsFit (h .replica)
-    accepted-bars f = rw (t .handed, e) (settled-bars r f i slot s (decideAccepted (r .sc) s slot) (settles-accepted (r .sc) s slot))
+    accepted-bars f =
+        let b = settled-bars r f i slot s (decideAccepted (r .sc) s slot) (settles-accepted (r .sc) s slot) in
+        rw (t .handed, e) (bars-kept (settledVote .replica) (summed settledVote .replica) (steady-self (settledVote .replica .sc)) refl b)
 
     pub accepted-moved : (m : Replica) → h .answer ≡ 0 → m ≡ movedAccept (h .replica) slot
-        → Told (acceptedDone r i slot s) (record { answer = 0; count = h .count; replica = m }) room after
+        → Told (summed (acceptedDone r i slot s)) (record { answer = 0; count = h .count; replica = m }) room after
     unfolding acceptedDone
     accepted-moved m z g =
-        let u : Told settledVote h room after = rw e at t in
+        let u : Told (summed settledVote) h room after = rw e at t in
         let a : settledVote .answer ≡ 0 = sym (ap (λ (x : Handled). x .answer) (u .handed)) ∙ z in
-        rw (eq-eqb (settledVote .answer) 0 a) (record { handed = rw (g, u .handed); written = u .written })
+        let q : acceptedDone r i slot s ≡ record { answer = 0; replica = movedAccept (settledVote .replica) slot; actions = settledVote .actions } =
+        rw (eq-eqb (settledVote .answer) 0 a) in
+        let kept : h .replica ≡ walked (settledVote .replica) = ap (λ (x : Handled). x .replica) (u .handed) ∙ rw (eq-eqb (settledVote .answer) 0 a) in
+        let n : h .count ≡ length (settledVote .actions) = ap (λ (x : Handled). x .count) (u .handed) in
+        let p : m ≡ walked (movedAccept (settledVote .replica) slot) = g ∙ ap (λ (x : Replica). movedAccept x slot) kept ∙ moved-walked (settledVote .replica) slot in
+        subst (λ (o : Outcome). Told o (record { answer = 0; count = h .count; replica = m }) room after) (sym (ap summed q))
+        (record { handed = λ k. record { answer = 0; count = n k; replica = p k }; written = u .written })
 
 -- ── PrepareBal ──
 module _ (r : Replica) (i slot : ℕ) (s : Slot) where
@@ -237,7 +280,37 @@ module _ (r : Replica) (i slot : ℕ) (s : Slot) where
 
   pub own-fits : (room : List ℕ) (m : Reply) → DoneFits r i slot room → m ≡ ownReply (r .sc) s slot → ReplyFits r room m
   own-fits room m f e =
-      record { long = f .long; low = f .bars .low; within = f .bars .within; from = rw e (omega (arith, f .named)) }
+      record {
+        long = f .long;
+        low = f .bars .low;
+        within = f .bars .within;
+        from = rw e (omega (arith, f .named));
+        commit-low = f .bars .commit-low;
+        commit-high = f .bars .commit-high;
+        sum = f .sum;
+      }
+
+module _ (r : Replica) (i slot : ℕ) where
+  -- the slot at its own place
+  done-settles : (room : List ℕ) (d : Decided) → DoneFits r i slot room → Settles (r .sc) (slotAt (r .window) i) d → SettleFits r (r .window) i slot d room
+  done-settles room d f k =
+      record {
+        low = omega (arith, f .here, f .bars .within);
+        long = f .long;
+        within = f .bars .within;
+        here = f .here;
+        named = f .named;
+        start = f .bars .low;
+        commit = f .bars .commit-low;
+        settles = k;
+        sum = f .sum;
+      }
+
+  pub promised-settles : (room : List ℕ) (d : Decided) → DoneFits r i slot room → d ≡ decidePromised (r .sc) (slotAt (r .window) i) slot → SettleFits r (r .window) i slot d room
+  promised-settles room d f e = done-settles room d f (rw e (settles-promised (r .sc) (slotAt (r .window) i) slot))
+
+  pub accepted-settles : (room : List ℕ) (d : Decided) → DoneFits r i slot room → d ≡ decideAccepted (r .sc) (slotAt (r .window) i) slot → SettleFits r (r .window) i slot d room
+  accepted-settles room d f e = done-settles room d f (rw e (settles-accepted (r .sc) (slotAt (r .window) i) slot))
 
 -- ── a refusal by the entry's handler gives no actions ──
 pub record Quiet (o : Outcome) : Type 0 where
@@ -289,7 +362,7 @@ done-quiet r i slot CommitSlot = pick-both Quiet (not (eqb slot (r .sc .«commit
 -- ── the whole ──
 module _ (r : Replica) (i size : ℕ) where
   pub logged-on : (t : Slot) (sc : Scalars) → t ≡ loggedSlot (r .sc .«wal_offset») (slotAt (r .window) i) → sc ≡ withLogSize (r .sc) size
-      → record { sc = sc; bars = r .bars; window = record { len = r .window .len; slots = set (r .window .slots) i t }; keys = r .keys; reads = r .reads } ≡ loggedOn r i size
+      → record { sc = sc; bars = r .bars; window = record { len = r .window .len; slots = set (r .window .slots) i t }; keys = r .keys; reads = r .reads; summary = r .summary } ≡ loggedOn r i size
   unfolding loggedOn
   logged-on t sc e f = rw (e, f)
 
@@ -309,12 +382,18 @@ module _ (r : Replica) (i size : ℕ) where
         here = h;
         named = n;
         long = f .long;
+        sum = sums-steady (r .sc) (withLogSize (r .sc) size) _ _ refl refl
+            (sums-put-like (r .sc) (r .window) (r .summary) i (loggedSlot (r .sc .«wal_offset») (slotAt (r .window) i)) same-status (f .sum));
       })
+    where
+      same-status : loggedSlot (r .sc .«wal_offset») (slotAt (r .window) i) .status ≡ slotAt (r .window) i .status
+      same-status =
+          pick-both (λ (x : Slot). x .status ≡ slotAt (r .window) i .status) (eqb (slotAt (r .window) i .«wal_offset») 0 || ltb (r .sc .«wal_offset») (slotAt (r .window) i .«wal_offset»)) refl refl
 
 module _ (r : Replica) (room : ℕ) (d : Done) where
-  pub logged-unready : ready r room ≡ false → loggedStep r room d ≡ kept 1 r
+  pub logged-unready : (n : ℕ) → n ≡ readyAnswer r room → (n ≡ 0 → ⊥) → loggedStep r room d ≡ kept n r
   unfolding loggedStep
-  logged-unready e = unready-kept r room _ e
+  logged-unready n e h = gate-shut (readyAnswer r room) n r _ (gate-ready r room _) e h
 
   module _ (e : ready r room ≡ true) where
     pub logged-below : d .slot < r .sc .start → loggedStep r room d ≡ kept 0 r
@@ -343,23 +422,24 @@ module _ (r : Replica) (room : ℕ) (d : Done) where
               ∙ rw (le-ltb (d .slot) (r .sc .start) h, lt-leb (logEnd r) (d .slot) k, le-ltb (d .size) (r .sc .«wal_offset») o)
 
           module _ (p : Replica) (q : p ≡ loggedOn r (place (r .sc) (d .slot)) (d .size)) {g : Handled} {before after : List ℕ}
-              (t : Told (doneOn p (place (r .sc) (d .slot)) (d .slot) (d .entry)) g before after) where
-            handler-told : Told handler g before after
+              (t : Told (summed (doneOn p (place (r .sc) (d .slot)) (d .slot) (d .entry))) g before after) where
+            handler-told : Told (summed handler) g before after
             handler-told = rw q at t
 
-            pub logged-done : g .answer ≡ 0 → Told (loggedStep r room d) g before after
+            pub logged-done : g .answer ≡ 0 → Told (summed (loggedStep r room d)) g before after
             logged-done z =
                 let u = handler-told in
                 let a : handler .answer ≡ 0 = sym (ap (λ (x : Handled). x .answer) (u .handed)) ∙ z in
                 told (goes ∙ ap (λ (b : Bool). pick b handler (kept (handler .answer) r)) (eq-eqb (handler .answer) 0 a)) u
 
             pub logged-refused : (x : Handled) → (g .answer ≡ 0 → ⊥) → x ≡ record { answer = g .answer; count = 0; replica = r }
-                → Told (loggedStep r room d) x before after
+                → Told (summed (loggedStep r room d)) x before after
             unfolding writeActions
             logged-refused x n c =
                 let u = handler-told in
                 let a : g .answer ≡ handler .answer = ap (λ (y : Handled). y .answer) (u .handed) in
                 let m : handler .answer ≡ 0 → ⊥ = λ z. n (a ∙ z) in
                 let quiet : handler .actions ≡ [] = done-quiet _ _ _ (d .entry) .none m in
-                told (goes ∙ ap (λ (b : Bool). pick b handler (kept (handler .answer) r)) (ne-eqb (handler .answer) 0 m))
+                let e = goes ∙ ap (λ (b : Bool). pick b handler (kept (handler .answer) r)) (ne-eqb (handler .answer) 0 m) in
+                subst (λ (o : Outcome). Told o x before after) (sym (ap summed e ∙ summed-refused (handler .answer) r (ne-eqb (handler .answer) 0 m)))
                 (record { handed = c ∙ rw a; written = u .written ∙ ap (writeActions before) quiet })

@@ -21,7 +21,7 @@ use Rattle.replica.specs.declared.Entry.{Entry}
 use Rattle.replica.specs.declared.Entry.the-variants.{PrepareBal, AcceptData, CommitSlot}
 use Rattle.replica.specs.declared.Done.{Done}
 use Rattle.replica.specs.Record.{Outcome, kept, settled, withWindow, place, number, logEnd}
-use Rattle.replica.specs.Fit.{ready}
+use Rattle.replica.specs.Fit.{ready, unready}
 use Rattle.replica.specs.Messages.{orKept, replyOn}
 
 -- 01's numbers of the entries
@@ -93,7 +93,7 @@ loggedOn r i size =
 -- "A completion below start changes nothing, not even wal_offset"; a refusal of the entry's handler refuses the whole call
 unfoldable pub loggedStep : Replica → ℕ → Done → Outcome
 loggedStep r room d =
-    pick (not (ready r room)) (kept 1 r)
+    pick (not (ready r room)) (kept (unready r room) r)
     (pick (ltb (d .slot) (r .sc .start)) (kept 0 r)
     (pick (leb (logEnd r) (d .slot)) (kept 4 r)
     (pick (ltb (d .size) (r .sc .«wal_offset»)) (kept 6 r)

@@ -9,6 +9,7 @@ use lib.Dec.{ltb, leb, eqb}
 use lib.ListN.{length, length-append}
 use borrow.Author.Tests.{lt-ltb, le-ltb, le-leb, lt-leb, eq-eqb, ne-eqb}
 use Rattle.base.specs.Pick.{pick}
+use Rattle.base.specs.Scan.{scan, scan-below}
 use Rattle.members.specs.declared.NextBallot.{NextBallot}
 use Rattle.members.specs.declared.NextBallot.the-variants.{Ballot, Spent}
 use Rattle.members.specs.Ballots.{nextBallot}
@@ -23,21 +24,22 @@ use Rattle.decide.specs.Scalars.{steppedUp, ignoresTimeout}
 use Rattle.decide.specs.Bars.{unknownBars}
 use Rattle.window.specs.declared.Window.{Window}
 use Rattle.window.specs.declared.Placed.{Placed}
-use Rattle.window.specs.Window.{grown, firstOpen, markStop}
+use Rattle.window.specs.Window.{slotAt, grown, sweep, firstOpen, markStop}
+use Rattle.window.specs.SummaryLaws.{Sums, sums-steady, sums-filled, sums-redone, sums-marked, marked-few}
 use Rattle.window.specs.Acts.{redoActs, markActs}
-use Rattle.window.specs.Sweeps.{sweepActs, Ranged, Swept}
-use Rattle.window.specs.Bounded.{filledIn, lastOpenIn, stopIn}
+use Rattle.window.specs.Sweeps.{sweepActs, Swept}
+use Rattle.window.specs.Bounded.{filledIn, lastOpenIn, stopIn, passes}
 use Rattle.window.specs.BoundedLaws.{filled-in, lastOpen-in, stop-in}
-use Rattle.window.specs.Places.{filled-low, filled-most}
-use Rattle.window.specs.Laws.{firstOpen-stop, firstOpen-within, markStop-stop, markStop-low, markStop-within}
+use Rattle.window.specs.Places.{filled-low, filled-has, filled-most}
+use Rattle.window.specs.Laws.{firstOpen-within, markStop-stop, markStop-low, markStop-within, markStop-may, passes-status}
 use Rattle.replica.specs.declared.Replica.{Replica}
-use Rattle.replica.specs.Record.{Outcome, kept, withWindow}
+use Rattle.replica.specs.Record.{Outcome, kept, summed, withWindow}
 use Rattle.replica.specs.Leadership.{leadOn, stepUp, timeoutStep, markOn, commitNoticeStep}
 use Rattle.replica.specs.Step.{Told}
 use Rattle.replica.specs.Admit.{fromMember, fromOwner}
 use Rattle.replica.specs.AdmitLaws.{gate-member, gate-owner, gate-shut, gate-open, Ready}
-use Rattle.replica.specs.ActingLaws.{acted}
-use Rattle.replica.specs.ElectionFits.{StepFits, LeadFits}
+use Rattle.replica.specs.ActingLaws.{acted, withSummary}
+use Rattle.replica.specs.ElectionFits.{StepFits, LeadFits, MarkFits}
 
 -- ── a timeout ──
 module _ (r : Replica) (room source : ℕ) where
@@ -68,54 +70,81 @@ pub step-spent : (r : Replica) → stepUp r Spent ≡ kept 8 r
 unfolding stepUp
 step-spent r = refl
 
--- ── the trigger slot, found at place i ──
-module _ (r : Replica) (l : r .window .len ≤ 64) (i : ℕ) (e : i ≡ stopIn (r .window) 0 3 0 (r .window .len)) where
-  found : i ≡ firstOpen (r .window)
-  found = e ∙ stop-in (r .window) 0 (r .window .len) 0 3 l ∙ sym (firstOpen-stop (r .window))
+-- ── the trigger slot: the first open one, as the summary has it ──
+module _ (r : Replica) (room : List ℕ) (f : StepFits r (r .window) room) where
+  abbrev trigger : ℕ
+  trigger = r .summary .first
 
-  pub found-within : i ≤ r .window .len
+  found : trigger ≡ r .sc .start + firstOpen (r .window)
+  found = f .sum .first
+
+  pub found-within : trigger ≤ r .sc .start + r .window .len
   found-within = omega (arith, found, firstOpen-within (r .window))
 
+  place-is : trigger - r .sc .start ≡ firstOpen (r .window)
+  place-is = omega (arith, found)
+
   module _ (ballot : ℕ) where
-    pub step-below : r .sc .start + i < r .sc .«exec_bar» → stepUp r (Ballot ballot) ≡ kept 8 r
+    pub step-below : trigger < r .sc .«exec_bar» → stepUp r (Ballot ballot) ≡ kept 8 r
     unfolding stepUp
-    step-below h = rw (← found, lt-ltb (r .sc .start + i) (r .sc .«exec_bar») h)
+    step-below h = rw (lt-ltb (r .sc .start + firstOpen (r .window)) (r .sc .«exec_bar») (omega (arith, found)))
 
-    pub step-full : r .sc .«exec_bar» ≤ r .sc .start + i → 64 ≤ i → stepUp r (Ballot ballot) ≡ kept 5 r
-    unfolding stepUp
-    step-full h q = rw (← found, le-ltb (r .sc .start + i) (r .sc .«exec_bar») h, le-leb 64 i q)
+    module _ (h : r .sc .«exec_bar» ≤ trigger) where
+      pub step-full : 64 ≤ trigger - r .sc .start → stepUp r (Ballot ballot) ≡ kept 5 r
+      unfolding stepUp
+      step-full q =
+          rw (le-ltb (r .sc .start + firstOpen (r .window)) (r .sc .«exec_bar») (omega (arith, found)), le-leb 64 (firstOpen (r .window)) (omega (arith, place-is)))
 
-    pub step-on : {last : ℕ} {w : Window} → r .sc .«exec_bar» ≤ r .sc .start + i → i < 64 → last ≡ lastOpenIn (r .window) → w ≡ filledIn nullSlot (r .window) (i + 1)
-        → stepUp r (Ballot ballot) ≡ leadOn r w (r .sc .start + i) (r .sc .start + last) ballot
-    unfolding stepUp
-    step-on h q f g = rw (g, filled-in nullSlot (r .window) (i + 1) (omega arith), f, lastOpen-in (r .window) l, ← found, le-ltb (r .sc .start + i) (r .sc .«exec_bar») h, lt-leb 64 i q)
+      pub step-on : {last : ℕ} {w : Window} → trigger - r .sc .start < 64 → last ≡ lastOpenIn (r .window) → w ≡ filledIn nullSlot (r .window) (trigger - r .sc .start + 1)
+          → stepUp r (Ballot ballot) ≡ leadOn r w trigger (r .sc .start + last) ballot
+      unfolding stepUp
+      step-on q g e =
+          rw (e, filled-in nullSlot (r .window) (trigger - r .sc .start + 1) (omega arith), g, lastOpen-in (r .window) (f .within), place-is, le-ltb (r .sc .start + firstOpen (r .window)) (r .sc .«exec_bar») (omega (arith, found)), lt-leb 64 (firstOpen (r .window)) (omega (arith, place-is)), found)
 
 -- what an admitted call hands on, and what the window with the trigger slot keeps of it
-pub ready-fits : (r : Replica) (room : List ℕ) → Ready r (length room) → StepFits r room
+pub ready-fits : (r : Replica) (room : List ℕ) → Ready r (length room) → StepFits r (r .window) room
 ready-fits r room f =
-    record { long = f .long; low = f .low; within = f .within; exec-low = f .exec-low; exec-high = omega (arith, f .exec-high, f .commit-high) }
-
-pub grown-fits : (r : Replica) (w : Window) (room : List ℕ) {n : ℕ} → StepFits r room → n ≤ 64 → w ≡ filledIn nullSlot (r .window) n → LeadFits r w room
-grown-fits r w room {n} f h e =
-    let l : w .len ≡ grown (r .window) n .len = ap (λ (v : Window). v .len) (e ∙ filled-in nullSlot (r .window) n h) in
     record {
       long = f .long;
       low = f .low;
-      within = omega (arith, filled-most nullSlot (r .window) n 64 (f .within) h);
+      within = f .within;
       exec-low = f .exec-low;
-      exec-high = omega (arith, f .exec-high, filled-low nullSlot (r .window) n);
+      exec-high = omega (arith, f .exec-high, f .commit-high);
+      exec-commit = f .exec-high;
+      commit-high = f .commit-high;
+      sum = f .sum;
+    }
+
+pub lead-fits : (r : Replica) (w : Window) (room : List ℕ) {n : ℕ} → StepFits r (r .window) room → n ≤ 64 → w ≡ filledIn nullSlot (r .window) n
+    → LeadFits r w (r .summary .first) room
+lead-fits r w room {n} f h e =
+    let g : w ≡ grown (r .window) n = e ∙ filled-in nullSlot (r .window) n h in
+    let l : w .len ≡ grown (r .window) n .len = ap (λ (v : Window). v .len) g in
+    record {
+      fits = record {
+        long = f .long;
+        low = f .low;
+        within = omega (arith, filled-most nullSlot (r .window) n 64 (f .within) h);
+        exec-low = f .exec-low;
+        exec-high = omega (arith, f .exec-high, filled-low nullSlot (r .window) n);
+        exec-commit = f .exec-commit;
+        commit-high = omega (arith, f .commit-high, filled-low nullSlot (r .window) n);
+        sum = rw g (sums-filled (r .sc) nullSlot (r .window) n (r .summary) (omega arith) (omega (arith, f .commit-high)) (f .sum));
+      };
+      named = refl;
     }
 
 -- ── "status up, heartbeat, PrepareBal by rising slot, Prepare" ──
 module _ (r : Replica) (w : Window) (trigger endprep ballot : ℕ) where
-  pub lead-told : {room a b d z : List ℕ} {p : Placed} {book : LeaderBook} {s : Scalars} {t : PeerBars} → LeadFits r w room
+  pub lead-told : {room a b d z : List ℕ} {p : Placed} {book : LeaderBook} {s : Scalars} {t : PeerBars} → LeadFits r w trigger room
       → a ≡ putAct room 0 (bare StatusUp) → b ≡ putAct a 1 (bare Heartbeat) → book ≡ newBook trigger endprep
       → Swept (λ i s. redoneSlot ballot book s) (λ i s. redoActs (r .sc .start + i) ballot s) (r .sc .«exec_bar» - r .sc .start) (w .len) 2 w b p d
       → z ≡ putAct d (p .next) (bare (Prepare (record { trigger = trigger; ballot = ballot }))) → s ≡ steppedUp (r .sc) ballot → t ≡ unknownBars (r .bars .own)
-      → Told (leadOn r w trigger endprep ballot)
-      (record { answer = 0; count = p .next + 1; replica = record { sc = s; bars = t; window = p .window; keys = r .keys; reads = r .reads } }) room z
+      → Told (summed (leadOn r w trigger endprep ballot))
+      (record { answer = 0; count = p .next + 1; replica = record { sc = s; bars = t; window = p .window; keys = r .keys; reads = r .reads; summary = record { first = trigger; accepting = 0 } } }) room z
   unfolding leadOn
-  lead-told {room} {a} {b} {d} {z} {p} f x y k q u v m =
+  lead-told {room} {a} {b} {d} {z} {p} {book} {s} {t} lead x y k q u v m =
+      let f = lead .fits in
       let redo : List Act = sweepActs (λ i s. redoActs (r .sc .start + i) ballot s) (r .sc .«exec_bar» - r .sc .start) (w .len) w in
       let two : List Act = bare StatusUp ∷ bare Heartbeat ∷ [] in
       let ask : List Act = bare (Prepare (record { trigger = trigger; ballot = ballot })) ∷ [] in
@@ -129,7 +158,12 @@ module _ (r : Replica) (w : Window) (trigger endprep ballot : ℕ) where
       let t4 : z ≡ writeAt room 0 ((two ++ redo) ++ ask) =
       write-then room d z (two ++ redo) ask 0 (p .next) (omega arith) (omega (arith, q .next)) t3
       (u ∙ put-in d (p .next) _ (omega (arith, f, q .few)) (omega (arith, f .long))) in
-      acted ((two ++ redo) ++ ask) _ (p .next + 1) refl (omega (arith, q .next, length-append redo ask)) t4 (rw (v, m, q .window, k))
+      let e : Sums s (p .window) (record { first = trigger; accepting = 0 }) =
+      rw (v, q .window)
+      (sums-steady (r .sc) (steppedUp (r .sc) ballot) _ _ refl refl
+      (sums-redone (r .sc) w (r .summary) ballot book (r .sc .«exec_bar» - r .sc .start) (lead .named) (f .sum) (omega (arith, f .exec-commit, f .exec-low)))) in
+      acted {o = leadOn r w trigger endprep ballot} ((two ++ redo) ++ ask) (record { sc = s; bars = t; window = p .window; keys = r .keys; reads = r .reads; summary = r .summary }) (record { first = trigger; accepting = 0 }) (p .next + 1) refl
+      (omega (arith, q .next, length-append redo ask)) t4 (rw (v, m, q .window, k)) e
 
 -- ── CommitNotice ──
 module _ (r : Replica) (ballot bar : ℕ) where
@@ -178,18 +212,62 @@ module _ (r : Replica) (ballot bar : ℕ) where
               notice-on
               ∙ rw (eq-eqb ballot (r .sc .«bal_max_seen») g, lt-leb bar (r .sc .«commit_bar») k, le-ltb (r .sc .start + 64) bar l, ← p, q)
 
-  -- the places that are marked are places of the window
+  -- the places that are marked are places of the window, and what was grown is null
   pub mark-fits : {stop : ℕ} (w : Window) (room : List ℕ) → Ready r (length room) → r .sc .«commit_bar» < bar → bar ≤ r .sc .start + 64
-      → stop ≡ stopIn w ballot 2 old new → Ranged old stop 0 room (r .sc .start)
-  mark-fits {stop} w room f h l e =
+      → w ≡ filledIn nullSlot (r .window) new → stop ≡ stopIn w ballot 2 old new → MarkFits r w old stop room
+  mark-fits {stop} w room f h l g e =
+      let q : w ≡ grown (r .window) new = g ∙ filled-in nullSlot (r .window) new (omega arith) in
+      let n : w .len ≡ grown (r .window) new .len = ap (λ (v : Window). v .len) q in
       let s : stop ≡ markStop w ballot old new = e ∙ stop-in w old new ballot 2 (omega arith) ∙ sym (markStop-stop w ballot old new) in
       let low = markStop-low w ballot old new in
       let high = markStop-within w ballot old new (omega arith) in
-      record { ordered = omega arith; within = omega arith; places = omega arith; long = f .long; low = f .low }
+      record {
+        ranged = record { ordered = omega arith; within = omega arith; places = omega arith; long = f .long; low = f .low };
+        within = omega (arith, filled-most nullSlot (r .window) new 64 (f .within) (omega arith));
+        high = omega (arith, filled-has nullSlot (r .window) new);
+        commit = refl;
+        may = λ j a b. markStop-may w ballot old new j a (omega (arith, s));
+        sum = rw q (sums-filled (r .sc) nullSlot (r .window) new (r .summary) (omega arith) (omega (arith, f .commit-high)) (f .sum));
+      }
 
-pub mark-told : (r : Replica) (w : Window) (from stop : ℕ) {room after : List ℕ} {p : Placed}
-    → Swept (λ i s. markedSlot s) (λ i s. markActs (r .sc .start + i) s) from stop 0 w room p after
-    → Told (markOn r w from stop) (record { answer = 0; count = p .next; replica = withWindow r (r .sc) (p .window) }) room after
-unfolding markOn
-mark-told r w from stop {room} {after} {p} q =
-    acted (sweepActs (λ i s. markActs (r .sc .start + i) s) from stop w) _ (p .next) refl (q .next ∙ zero-add _) (q .written) (rw (q .window))
+module _ (r : Replica) (w : Window) (from stop : ℕ) {room : List ℕ} (f : MarkFits r w from stop room) where
+  marking : (j : ℕ) → r .sc .«commit_bar» - r .sc .start ≤ j → j < stop → 2 ≤ slotAt w j .status
+  marking j a b = f .may j (omega (arith, f .commit)) b
+
+  -- there are as many Accepting slots to take away as entries were written
+  pub mark-few : {after : List ℕ} {p : Placed} → Swept (λ i s. markedSlot s) (λ i s. markActs (r .sc .start + i) s) from stop 0 w room p after
+      → p .next ≤ r .summary .accepting
+  mark-few {after} {p} q =
+      marked-few (r .sc) w (r .summary) (r .sc .start) stop (f .sum) (omega (arith, f .commit, f .ranged .ordered)) (f .high) marking
+      (q .next ∙ zero-add _ ∙ ap (λ (k : ℕ). length (sweepActs (λ i s. markActs (r .sc .start + i) s) k stop w)) (f .commit))
+
+  pub mark-first : r .sc .start ≤ r .summary .first
+  mark-first = omega (arith, f .sum .first)
+
+  -- where the scan ends is a place of the window
+  pub mark-found : {after : List ℕ} {p : Placed} {k : ℕ} → Swept (λ i s. markedSlot s) (λ i s. markActs (r .sc .start + i) s) from stop 0 w room p after
+      → k ≡ stopIn (p .window) 0 3 (r .summary .first - r .sc .start) (p .window .len) → k ≤ 64
+  mark-found {after} {p} {k} q e =
+      let l : p .window .len ≡ w .len = ap (λ (v : Window). v .len) (q .window) in
+      let a = stop-in (p .window) (r .summary .first - r .sc .start) (p .window .len) 0 3 (omega (arith, f .within)) in
+      omega (arith, e ∙ a, f .within, f .sum .first, firstOpen-within w, scan-below (passes (p .window) 0 3) (r .summary .first - r .sc .start) (p .window .len) 64 (omega (arith, f .within, f .sum .first, firstOpen-within w)) (omega (arith, f .within)))
+
+  pub mark-told : {after : List ℕ} {p : Placed} {k : ℕ}
+      → Swept (λ i s. markedSlot s) (λ i s. markActs (r .sc .start + i) s) from stop 0 w room p after
+      → k ≡ stopIn (p .window) 0 3 (r .summary .first - r .sc .start) (p .window .len)
+      → Told (summed (markOn r w from stop))
+      (record { answer = 0; count = p .next; replica = withSummary (withWindow r (r .sc) (p .window)) (record { first = r .sc .start + k; accepting = r .summary .accepting - p .next }) }) room after
+  unfolding markOn
+  mark-told {after} {p} {k} q g =
+      acted {o = markOn r w from stop} (sweepActs (λ i s. markActs (r .sc .start + i) s) from stop w) (withWindow r (r .sc) (p .window)) (record { first = r .sc .start + k; accepting = r .summary .accepting - p .next }) (p .next) refl
+      (q .next ∙ zero-add _) (q .written) (rw (q .window))
+      (rw (q .window)
+      (rw (← f .commit) at
+      (sums-marked (r .sc) w (r .summary) (r .sc .start) stop (f .sum) (omega (arith, f .commit, f .ranged .ordered)) (f .high) marking
+      (scanned)
+      (q .next ∙ zero-add _ ∙ ap (λ (k : ℕ). length (sweepActs (λ i s. markActs (r .sc .start + i) s) k stop w)) (f .commit)))))
+    where
+      scanned : k ≡ scan (λ j. leb 3 (slotAt (sweep (λ i s. markedSlot s) (r .sc .«commit_bar» - r .sc .start) stop w) j .status)) (r .summary .first - r .sc .start) (w .len)
+      scanned =
+          g ∙ rw (q .window, f .commit) (stop-in (sweep (λ i s. markedSlot s) (r .sc .«commit_bar» - r .sc .start) stop w) (r .summary .first - r .sc .start) (w .len) 0 3 (f .within))
+          ∙ passes-status (sweep (λ i s. markedSlot s) (r .sc .«commit_bar» - r .sc .start) stop w) 3 (r .summary .first - r .sc .start) (w .len)

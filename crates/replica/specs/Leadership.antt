@@ -18,7 +18,7 @@ use Rattle.window.specs.Window.{slotAt, grown, sweep, firstOpen, lastOpen, mark
 use Rattle.window.specs.Acts.{redoActs, markActs}
 use Rattle.replica.specs.declared.Replica.{Replica}
 use Rattle.replica.specs.Record.{Outcome, kept, withWindow, place, number}
-use Rattle.replica.specs.Fit.{ready}
+use Rattle.replica.specs.Fit.{ready, unready}
 
 -- ── Timeout: become_a_leader "is ignored if a leader is known and is not the timeout's source, or if disallowed" (`ignoresTimeout`) ──
 
@@ -34,6 +34,7 @@ leadOn r w trigger endprep ballot =
             window = sweep (λ i s. redoneSlot ballot (newBook trigger endprep) s) (place (r .sc) (r .sc .«exec_bar»)) (w .len) w;
             keys = r .keys;
             reads = r .reads;
+            summary = r .summary;
           };
       actions =
           bare StatusUp ∷ bare Heartbeat
@@ -53,7 +54,7 @@ stepUp r (Ballot b) =
 
 unfoldable pub timeoutStep : Replica → ℕ → ℕ → Outcome
 timeoutStep r room source =
-    pick (not (ready r room)) (kept 1 r)
+    pick (not (ready r room)) (kept (unready r room) r)
     (pick (not (isMember (r .sc) source)) (kept 2 r)
     (pick (ignoresTimeout (r .sc) source) (kept 0 r)
     (stepUp r (nextBallot (r .sc .«bal_max_seen») (r .sc .id)))))
@@ -71,7 +72,7 @@ markOn r w from stop =
 
 unfoldable pub commitNoticeStep : Replica → ℕ → ℕ → ℕ → ℕ → Outcome
 commitNoticeStep r room peer ballot bar =
-    pick (not (ready r room)) (kept 1 r)
+    pick (not (ready r room)) (kept (unready r room) r)
     (pick (not (isPeer (r .sc) peer)) (kept 2 r)
     (pick (not (owns ballot peer)) (kept 3 r)
     (pick (not (eqb ballot (r .sc .«bal_max_seen»))) (kept 0 r)

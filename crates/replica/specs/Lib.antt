@@ -25,4 +25,3 @@ pub mod Replying
 pub mod ReplyLaws
 pub mod CompletionFits
 pub mod CompletionLaws
-pub mod Eleven

@@ -2,13 +2,13 @@
 use mathlib.Core.Path.{_≡_, refl, sym, ap, _∙_}
 use mathlib.Core.Bool.{Bool, true, false, not}
 use mathlib.Core.List.{List, [], _∷_, _++_}
-use Prim.Native.Nat.{ℕ, _+_, _≤_, _<_}
+use Prim.Native.Nat.{ℕ, _+_, _-_, _≤_, _<_}
 use native.Mathlib.Nat.{zero-add}
 use native.Mathlib.Omega.{arith}
 use lib.Dec.{ltb, leb, eqb}
 use lib.ListN.{length, length-append}
 use borrow.Author.Tests.{lt-ltb, le-ltb, le-leb, lt-leb, eq-eqb, ne-eqb}
-use Rattle.base.specs.Pick.{pick, pick-cases, larger, larger-left, larger-below}
+use Rattle.base.specs.Pick.{pick, pick-cases, larger, larger-left, larger-right, larger-below}
 use Rattle.base.specs.Gather.{gather}
 use Rattle.base.specs.Find.{any}
 use Rattle.batch.specs.declared.Batch.{Batch}
@@ -23,23 +23,29 @@ use Rattle.decide.specs.declared.Scalars.{Scalars}
 use Rattle.decide.specs.declared.Decided.{Decided}
 use Rattle.decide.specs.Scalars.{followed, stepsDown}
 use Rattle.decide.specs.Decide.{decideAccept, decideAcceptReply}
+use Rattle.decide.specs.Laws.{Steady, steady-followed, settles-accept, settles-reply}
 use Rattle.window.specs.declared.Window.{Window}
 use Rattle.window.specs.declared.Placed.{Placed}
+use Rattle.window.specs.declared.Summary.{Summary}
 use Rattle.window.specs.Window.{slotAt, grown, lastUsed}
 use Rattle.window.specs.Acts.{promise}
 use Rattle.window.specs.Sweeps.{Swept}
 use Rattle.window.specs.Bounded.{filledIn}
 use Rattle.window.specs.BoundedLaws.{filled-in}
-use Rattle.window.specs.Places.{filled-most}
+use Rattle.window.specs.Places.{filled-has, filled-most}
 use Rattle.window.specs.Laws.{lastUsed-within}
+use Rattle.window.specs.Kept.{preparedFrom, countedIn}
+use Rattle.window.specs.KeptLaws.{counted-in}
+use Rattle.window.specs.SummaryLaws.{Sums, sums-steady, sums-filled, sums-prepared, unused-null}
 use Rattle.replica.specs.declared.Replica.{Replica}
-use Rattle.replica.specs.Record.{Outcome, kept, settled, withWindow, place, number, logEnd}
+use Rattle.replica.specs.Record.{Outcome, kept, settled, summed, withWindow, place, number, logEnd}
 use Rattle.replica.specs.Messages.{clean, downActs, prepareTop, prepareOn, prepareStep, acceptOn, acceptStep, acceptReplyStep}
 use Rattle.replica.specs.Step.{Told}
 use Rattle.replica.specs.Admit.{fromPeer, fromOwner}
-use Rattle.replica.specs.AdmitLaws.{gate-owner, gate-peer, gate-shut, gate-open}
-use Rattle.replica.specs.ActingLaws.{acted}
-use Rattle.replica.specs.MessageFits.{WroteDown}
+use Rattle.replica.specs.AdmitLaws.{gate-owner, gate-peer, gate-shut, gate-open, Ready}
+use Rattle.replica.specs.Acting.{SettleFits}
+use Rattle.replica.specs.ActingLaws.{acted, withSummary}
+use Rattle.replica.specs.MessageFits.{WroteDown, PrepareFits}
 
 -- ── a leader that steps down says so first ──
 
@@ -99,6 +105,27 @@ module _ (r : Replica) (n peer trigger ballot first : ℕ) (e : first ≡ fromOw
 pub grown-fits : {v : Window} (w : Window) (n : ℕ) → v ≡ filledIn nullSlot w n → w .len ≤ 64 → n ≤ 64 → v .len ≤ 64
 grown-fits w n e h q = rw (e, filled-in nullSlot w n q) (filled-most nullSlot w n 64 h q)
 
+-- the summary is the walk of the log grown with null slots, too
+pub grown-sums : {v : Window} (r : Replica) (n room : ℕ) → Ready r room → v ≡ filledIn nullSlot (r .window) n → n ≤ 64 → Sums (r .sc) v (r .summary)
+grown-sums r n room f e h =
+    rw (e, filled-in nullSlot (r .window) n h) (sums-filled (r .sc) nullSlot (r .window) n (r .summary) (omega arith) (omega (arith, f .commit-high)) (f .sum))
+
+pub grown-has : {v : Window} (w : Window) (i : ℕ) → v ≡ filledIn nullSlot w (i + 1) → i < 64 → i < v .len
+grown-has w i e h = rw (e, filled-in nullSlot w (i + 1) (omega arith)) (omega (arith, filled-has nullSlot w (i + 1)))
+
+pub prepare-fits : {v : Window} (r : Replica) (from : ℕ) (room : List ℕ) → Ready r (length room) → v ≡ filledIn nullSlot (r .window) (from + 1) → from < 64
+    → PrepareFits r v from room
+prepare-fits r from room f e h =
+    record {
+      low = f .low;
+      within = grown-fits (r .window) (from + 1) e (f .within) (omega arith);
+      inside = h;
+      here = grown-has (r .window) from e h;
+      long = f .long;
+      commit = omega (arith, f .exec-low, f .exec-high);
+      sum = grown-sums r (from + 1) (length room) f e (omega arith);
+    }
+
 -- the last place that it covers, as the code has it
 pub top-within : (w : Window) (from last top : ℕ) → last ≡ lastUsed w → top ≡ larger from last → w .len ≤ 64 → from < 64 → (from ≤ top) × (top < 64)
 top-within w from last top e f h q =
@@ -114,19 +141,32 @@ module _ (r : Replica) (w : Window) (from peer ballot top : ℕ) (e : top ≡ pr
   unfolding prepareOn
   prepare-above h = rw (← e, ← f, h)
 
-  -- as the code has it: the report, then the sweep from the place after it
-  pub prepare-told : {room mid after : List ℕ} {k : ℕ} {p : Placed} {sc : Scalars} → b ≡ false → WroteDown (r .sc) ballot room k mid
+  -- as the code has it: the report, then the sweep from the place after it; the summary
+  pub prepare-told : {room mid after : List ℕ} {k below : ℕ} {p : Placed} {sc : Scalars} {u : Summary} → PrepareFits r w from room → b ≡ false → WroteDown (r .sc) ballot room k mid
       → Swept (λ i s. preparedSlot ballot (bookTo (r .sc) from top peer) s) (λ i s. promise (number (r .sc) i) ballot ∷ []) from (top + 1) k w mid p after
-      → sc ≡ followed (r .sc) peer ballot
-      → Told (prepareOn r w from peer ballot) (record { answer = 0; count = p .next; replica = withWindow r sc (p .window) }) room after
+      → sc ≡ followed (r .sc) peer ballot → below ≡ countedIn w 2 (r .sc .«commit_bar» - r .sc .start) from → u ≡ preparedFrom (r .summary) (r .sc .start + from) below
+      → Told (summed (prepareOn r w from peer ballot)) (record { answer = 0; count = p .next; replica = withSummary (withWindow r sc (p .window)) u }) room after
   unfolding prepareOn
-  prepare-told {room} {mid} {after} {k} {p} {sc} h d s q =
+  prepare-told {room} {mid} {after} {k} {below} {p} {sc} {u} fits h d s q n v =
       let down : List Act = downActs (r .sc) ballot in
       let rest : List Act = gather (λ i. promise (number (r .sc) i) ballot ∷ []) from (top + 1) in
-      acted (down ++ rest) (withWindow r sc (p .window)) (p .next) refl
+      acted (down ++ rest) (withWindow r sc (p .window)) u (p .next) refl
       (s .next ∙ ap (λ (x : ℕ). x + length rest) (d .next) ∙ sym (length-append down rest))
       (write-then room mid after down rest 0 k (omega arith) (d .next ∙ sym (zero-add (length down))) (d .written) (s .written))
-      (rw (← e, ← f, h, s .window, q))
+      (rw (← e, ← f, h, s .window, q)) after-sums
+    where
+      steady : Steady (r .sc) sc
+      steady = rw q (steady-followed (r .sc) peer ballot)
+
+      past : (j : ℕ) → top + 1 ≤ j → j < w .len → slotAt w j .status < 2
+      past j a l = unused-null w j (omega (arith, larger-right from (lastUsed w))) l
+
+      after-sums : Sums sc (p .window) u
+      after-sums =
+          sums-steady (r .sc) sc (p .window) u (steady .start) (steady .commit)
+          (rw (s .window, v)
+          (sums-prepared (r .sc) w (r .summary) ballot (bookTo (r .sc) from top peer) from (top + 1) (fits .sum) (omega (arith, larger-left from (lastUsed w))) (fits .here) past
+          (n ∙ counted-in w 2 (r .sc .«commit_bar» - r .sc .start) from (omega (arith, fits .inside)))))
 
 -- ── Accept ──
 
@@ -201,7 +241,37 @@ module _ (r : Replica) (n peer slot ballot : ℕ) (b : Batch) (first : ℕ) (e :
               accept-made
               ∙ rw (le-ltb slot (r .sc .start) f, le-ltb ballot (r .sc .«bal_max_seen») g, lt-leb (r .sc .start + 64) slot h, ← filled-in nullSlot (r .window) (place (r .sc) slot + 1) (omega arith), ← q, ← v)
 
+-- one slot of the log, which is grown to have it
+pub accept-fits : {v : Window} {d : Decided} (r : Replica) (i peer slot ballot : ℕ) (b : Batch) (room : List ℕ) → Ready r (length room) → v ≡ filledIn nullSlot (r .window) (i + 1)
+    → i < 64 → slot ≡ r .sc .start + i → d ≡ decideAccept (r .sc) (slotAt v i) peer slot ballot b → SettleFits r v i slot d room
+accept-fits {v} {d} r i peer slot ballot b room f e h n q =
+    record {
+      low = h;
+      long = f .long;
+      within = grown-fits (r .window) (i + 1) e (f .within) (omega arith);
+      here = grown-has (r .window) i e h;
+      named = n;
+      start = f .low;
+      commit = omega (arith, f .exec-low, f .exec-high);
+      settles = rw q (settles-accept (r .sc) (slotAt v i) peer slot ballot b);
+      sum = grown-sums r (i + 1) (length room) f e (omega arith);
+    }
+
 -- ── AcceptReply ──
+pub acceptReply-fits : {d : Decided} (r : Replica) (i peer slot ballot : ℕ) (room : List ℕ) → Ready r (length room) → i < r .window .len → slot ≡ r .sc .start + i
+    → d ≡ decideAcceptReply (r .sc) (slotAt (r .window) i) peer slot ballot → SettleFits r (r .window) i slot d room
+acceptReply-fits {d} r i peer slot ballot room f h n q =
+    record {
+      low = omega (arith, f .within);
+      long = f .long;
+      within = f .within;
+      here = h;
+      named = n;
+      start = f .low;
+      commit = omega (arith, f .exec-low, f .exec-high);
+      settles = rw q (settles-reply (r .sc) (slotAt (r .window) i) peer slot ballot);
+      sum = f .sum;
+    }
 
 abbrev acceptReplyFrom : Replica → ℕ → ℕ → ℕ → Outcome
 acceptReplyFrom r peer slot ballot =

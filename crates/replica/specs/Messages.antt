@@ -26,7 +26,7 @@ use Rattle.window.specs.Window.{slotAt, putSlot, filled, grown, sweep, lastUsed
 use Rattle.window.specs.Acts.{promise, enterActs}
 use Rattle.replica.specs.declared.Replica.{Replica}
 use Rattle.replica.specs.Record.{Outcome, kept, noting, settled, withWindow, place, number, logEnd}
-use Rattle.replica.specs.Fit.{ready}
+use Rattle.replica.specs.Fit.{ready, unready}
 
 -- a batch as a message names it, its unused key numbers dropped
 abbrev pub clean : Batch → Batch
@@ -57,7 +57,7 @@ prepareOn r w from peer ballot =
 
 unfoldable pub prepareStep : Replica → ℕ → ℕ → ℕ → ℕ → Outcome
 prepareStep r room peer trigger ballot =
-    pick (not (ready r room)) (kept 1 r)
+    pick (not (ready r room)) (kept (unready r room) r)
     (pick (not (isPeer (r .sc) peer)) (kept 2 r)
     (pick (not (owns ballot peer)) (kept 3 r)
     (pick (ltb trigger (r .sc .start)) (kept 0 r)
@@ -79,7 +79,7 @@ appendActs r i = gather (λ k. promise (number (r .sc) k) (r .sc .«bal_prep_sen
 -- the replica with a member's accept bar in its table
 abbrev pub tabled : Replica → ℕ → ℕ → Replica
 tabled r peer bar =
-    record { sc = withFallen (r .sc) (r .bars) peer bar; bars = withBar (r .sc) (r .bars) peer bar; window = r .window; keys = r .keys; reads = r .reads }
+    record { sc = withFallen (r .sc) (r .bars) peer bar; bars = withBar (r .sc) (r .bars) peer bar; window = r .window; keys = r .keys; reads = r .reads; summary = r .summary }
 
 -- counted at the trigger slot, at place j of the window w: below the quorum only that is kept; at quorum the slots from there on enter Accept
 unfoldable pub countedOn : Replica → Window → ℕ → ℕ → List Act → Decided → Outcome
@@ -133,7 +133,7 @@ cleanReply m = withVoted m (clean (m .vote .batch))
 
 unfoldable pub prepareReplyStep : Replica → ℕ → ℕ → Reply → Outcome
 prepareReplyStep r room peer m =
-    pick (not (ready r room)) (kept 1 r)
+    pick (not (ready r room)) (kept (unready r room) r)
     (pick (not (isPeer (r .sc) peer)) (kept 2 r)
     (pick (m .voted && not (isBatch (m .vote .batch .id) (m .vote .batch .count))) (kept 10 r)
     (pick (ltb (m .slot) (r .sc .start)) (kept 0 r)
@@ -146,7 +146,7 @@ acceptOn r w i peer slot ballot b = settled r w i slot (decideAccept (r .sc) (sl
 
 unfoldable pub acceptStep : Replica → ℕ → ℕ → ℕ → ℕ → Batch → Outcome
 acceptStep r room peer slot ballot b =
-    pick (not (ready r room)) (kept 1 r)
+    pick (not (ready r room)) (kept (unready r room) r)
     (pick (not (isPeer (r .sc) peer)) (kept 2 r)
     (pick (not (owns ballot peer)) (kept 3 r)
     (pick (not (isBatch (b .id) (b .count))) (kept 10 r)
@@ -158,7 +158,7 @@ acceptStep r room peer slot ballot b =
 -- ── AcceptReply ──
 unfoldable pub acceptReplyStep : Replica → ℕ → ℕ → ℕ → ℕ → Outcome
 acceptReplyStep r room peer slot ballot =
-    pick (not (ready r room)) (kept 1 r)
+    pick (not (ready r room)) (kept (unready r room) r)
     (pick (not (isPeer (r .sc) peer)) (kept 2 r)
     (pick (ltb slot (r .sc .start)) (kept 0 r)
     (pick (not (eqb ballot (r .sc .«bal_prepared»))) (kept 0 r)

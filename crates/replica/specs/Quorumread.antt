@@ -18,16 +18,16 @@ use Rattle.actions.specs.Actions.{Act, bare}
 use Rattle.decide.specs.Scalars.{isMember, quorum}
 use Rattle.replica.specs.declared.Replica.{Replica}
 use Rattle.replica.specs.Record.{Outcome, kept}
-use Rattle.replica.specs.Fit.{ready}
+use Rattle.replica.specs.Fit.{ready, unready}
 
 abbrev pub withReads : Replica → Reads → Replica
-withReads r rs = record { sc = r .sc; bars = r .bars; window = r .window; keys = r .keys; reads = rs }
+withReads r rs = record { sc = r .sc; bars = r .bars; window = r .window; keys = r .keys; reads = rs; summary = r .summary }
 
 abbrev pub opened : Replica → Opened → Outcome
 opened r o = record { answer = o .answer; replica = withReads r (o .reads); actions = [] }
 
 unfoldable pub openReadStep : Replica → ℕ → ℕ → ℕ → List ℕ → Outcome
-openReadStep r room id count keys = pick (not (ready r room)) (kept 1 r) (opened r (openRead (r .reads) id count keys))
+openReadStep r room id count keys = pick (not (ready r room)) (kept (unready r room) r) (opened r (openRead (r .reads) id count keys))
 
 -- the answer for the key at a place: "A read answer has read id, place, tag and value (or leader, 255 = none)"
 abbrev pub answerAct : ℕ → Read → ℕ → Act
@@ -45,7 +45,7 @@ repliedStep r i d =
 -- 10: a reply list over 8; "An unknown read id is ignored."
 unfoldable pub readReplyStep : Replica → ℕ → ℕ → ℕ → Bool → Tally → Outcome
 readReplyStep r room peer id fromLeader reply =
-    pick (not (ready r room)) (kept 1 r)
+    pick (not (ready r room)) (kept (unready r room) r)
     (pick (not (isMember (r .sc) peer)) (kept 2 r)
     (pick (ltb 8 (reply .count)) (kept 10 r)
     (pick (leb (r .reads .count) (findRead (r .reads) id)) (kept 0 r)

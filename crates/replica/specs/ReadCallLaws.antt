@@ -8,7 +8,7 @@ use native.Mathlib.Omega.{arith}
 use lib.Dec.{ltb, leb, eqb}
 use lib.ListN.{getD, length-append}
 use borrow.Author.Tests.{lt-ltb, le-ltb, le-leb, lt-leb, leb-true}
-use Rattle.base.specs.Pick.{pick, and-left, refuted, granted}
+use Rattle.base.specs.Pick.{pick, and-left, refuted, granted, pick-both}
 use Rattle.base.specs.Gather.{gather, gather-more}
 use Rattle.tally.specs.declared.ReadAnswer.{ReadAnswer}
 use Rattle.tally.specs.declared.Tally.{Tally}
@@ -25,11 +25,11 @@ use Rattle.actions.specs.Actions.{Act, bare, writeAt, putAct}
 use Rattle.actions.specs.Laws.{put-in, room-start, room-turn}
 use Rattle.decide.specs.Scalars.{quorum}
 use Rattle.replica.specs.declared.Replica.{Replica}
-use Rattle.replica.specs.Record.{Outcome, kept}
+use Rattle.replica.specs.Record.{Outcome, kept, summed}
 use Rattle.replica.specs.Fit.{ready}
-use Rattle.replica.specs.Admit.{fromMember}
-use Rattle.replica.specs.AdmitLaws.{unready-kept, ready-goes, gate-member, gate-shut, gate-open}
-use Rattle.replica.specs.ActingLaws.{acted}
+use Rattle.replica.specs.Admit.{readyAnswer, fromMember}
+use Rattle.replica.specs.AdmitLaws.{gate-ready, ready-goes, gate-member, gate-shut, gate-open}
+use Rattle.replica.specs.ActingLaws.{acted, Summed, summed-at}
 use Rattle.replica.specs.Quorumread.{withReads, openReadStep, answerAct, repliedStep, readReplyStep}
 use Rattle.replica.specs.Step.{Told}
 use Rattle.replica.specs.ReadCalls.{AnswerFits, answerActs, Answers}
@@ -61,10 +61,10 @@ module _ (leader : ℕ) (read : Read) (room : List ℕ) where
 
 -- ── a reply to the read at place i ──
 module _ (r : Replica) (i : ℕ) (d : Replied) where
-  pub replied-closes : {room after : List ℕ} {rs : Reads} → d .closes ≡ true → Answers (r .sc .leader) (d .read) (d .answers) room after → rs ≡ closeRead (r .reads) i
-      → Told (repliedStep r i d) (record { answer = 0; count = d .answers; replica = withReads r rs }) room after
+  pub replied-closes : {room after : List ℕ} {rs : Reads} → d .closes ≡ true → Answers (r .sc .leader) (d .read) (d .answers) room after → rs ≡ closeRead (r .reads) i → Summed r
+      → Told (summed (repliedStep r i d)) (record { answer = 0; count = d .answers; replica = withReads r rs }) room after
   unfolding repliedStep
-  replied-closes e a f = acted (answerActs (r .sc .leader) (d .read) (d .answers)) _ _ refl (a .many) (a .written) (rw (e, f))
+  replied-closes {rs = rs} e a f s = acted (answerActs (r .sc .leader) (d .read) (d .answers)) (withReads r rs) (r .summary) _ refl (a .many) (a .written) (rw (e, f)) s
 
   pub replied-stays : {b : Bool} {rs : Reads} → d .closes ≡ false → b ≡ staysOpen (d .answer) → not b ≡ false
       → rs ≡ putRead (r .reads) i (d .read) → repliedStep r i d ≡ kept (d .answer) (withReads r rs)
@@ -76,11 +76,18 @@ module _ (r : Replica) (i : ℕ) (d : Replied) where
   unfolding repliedStep
   replied-refused e f g = rw (e, refuted f g)
 
+  -- a reply to a read leaves the summary
+  pub replied-summed : Summed r → summed (repliedStep r i d) ≡ repliedStep r i d
+  unfolding repliedStep
+  replied-summed s =
+      pick-both (λ (o : Outcome). summed o ≡ o) (d .closes) (summed-at _ s)
+      (pick-both (λ (o : Outcome). summed o ≡ o) (staysOpen (d .answer)) (summed-at _ s) (summed-at _ s))
+
 -- ── a read opens ──
 module _ (r : Replica) (room id count : ℕ) (keys : List ℕ) where
-  pub open-unready : ready r room ≡ false → openReadStep r room id count keys ≡ kept 1 r
+  pub open-unready : (n : ℕ) → n ≡ readyAnswer r room → (n ≡ 0 → ⊥) → openReadStep r room id count keys ≡ kept n r
   unfolding openReadStep
-  open-unready e = unready-kept r room _ e
+  open-unready n e h = gate-shut (readyAnswer r room) n r _ (gate-ready r room _) e h
 
   pub open-ready : (o : Opened) → ready r room ≡ true → o ≡ openRead (r .reads) id count keys
       → openReadStep r room id count keys ≡ kept (o .answer) (withReads r (o .reads))

@@ -15,6 +15,7 @@ use Rattle.decide.specs.Scalars.{nobody, unknownBar, mayBe}
 use Rattle.decide.specs.Bars.{unknownBars}
 use Rattle.window.specs.declared.Window.{Window}
 use Rattle.window.specs.Window.{putSlot, noSlots}
+use Rattle.window.specs.Summary.{walk}
 use Rattle.replica.specs.declared.Replica.{Replica}
 use Rattle.replica.specs.declared.Made.{Made}
 
@@ -51,7 +52,7 @@ freshScalars id group start options =
 
 abbrev pub fresh : ℕ → ℕ → ℕ → ℕ → Replica
 fresh id group start options =
-    record { sc = freshScalars id group start options; bars = unknownBars false; window = noSlots; keys = emptyTable; reads = noReads }
+    record { sc = freshScalars id group start options; bars = unknownBars false; window = noSlots; keys = emptyTable; reads = noReads; summary = record { first = start; accepting = 0 } }
 
 -- "A refused new replica is the all-zero record, which is unfit."
 abbrev pub zeroReplica : Replica
@@ -76,6 +77,7 @@ zeroReplica =
       window = noSlots;
       keys = emptyTable;
       reads = noReads;
+      summary = record { first = 0; accepting = 0 };
     }
 
 unfoldable pub newReplica : ℕ → ℕ → ℕ → ℕ → Made
@@ -94,7 +96,7 @@ abbrev pub kept : ℕ → Replica → Outcome
 kept answer r = record { answer = answer; replica = r; actions = [] }
 
 abbrev pub withWindow : Replica → Scalars → Window → Replica
-withWindow r sc w = record { sc = sc; bars = r .bars; window = w; keys = r .keys; reads = r .reads }
+withWindow r sc w = record { sc = sc; bars = r .bars; window = w; keys = r .keys; reads = r .reads; summary = r .summary }
 
 -- 7: "the call would add more new keys than the table has free"; else refresh_highest_slot with the batch that a slot takes. 7 wraps the rest
 -- because it is the last test: it looks at an outcome that all other tests let through, and another answer stands as it is
@@ -110,6 +112,7 @@ noting r noted slot b o =
         window = o .replica .window;
         keys = refresh slot b (r .keys);
         reads = o .replica .reads;
+        summary = o .replica .summary;
       };
       actions = o .actions;
     }))
@@ -120,3 +123,19 @@ settled r w i slot d =
     pick (not (eqb (d .answer) 0)) (kept (d .answer) r)
     (noting r (d .noted) slot (d .slot .batch)
     (record { answer = 0; replica = withWindow r (d .sc) (putSlot w i (d .slot)); actions = saysActs (d .says) (d .keys) }))
+
+-- 02, Wish 1: "equal to the full walk after every call": a call answered 0 leaves the walk's numbers. A refused call leaves the record as it was
+abbrev pub summed : Outcome → Outcome
+summed o =
+    record {
+      answer = o .answer;
+      replica = record {
+        sc = o .replica .sc;
+        bars = o .replica .bars;
+        window = o .replica .window;
+        keys = o .replica .keys;
+        reads = o .replica .reads;
+        summary = pick (eqb (o .answer) 0) (walk (o .replica .sc) (o .replica .window)) (o .replica .summary);
+      };
+      actions = o .actions;
+    }

@@ -3,12 +3,14 @@ use mathlib.Core.Path.{_≡_, refl, sym, ap, _∙_}
 use mathlib.Core.Bool.{Bool, true, false, not, _&&_}
 use mathlib.Core.List.{List, _++_, append-nil}
 use Prim.Native.Nat.{ℕ, _+_, _-_, _≤_, _<_}
+use native.Mathlib.Nat.{add-zero}
 use native.Mathlib.Omega.{arith}
 use lib.Dec.{ltb, leb, eqb}
 use lib.ListN.{length, length-append}
 use lib.Seq.{getD-set-same, getD-set-other, set-getD}
 use borrow.Author.Tests.{not-true, not-false, lt-ltb, le-ltb, le-leb, lt-leb, eq-eqb, ne-eqb, eqb-true, eqb-false}
-use Rattle.base.specs.Pick.{pick, pick-both, pick-cases}
+use Rattle.base.specs.Pick.{pick, pick-both, pick-cases, larger, larger-left}
+use Rattle.base.specs.HowMany.{howMany-none, howMany-few}
 use Rattle.base.specs.Over.{over-self}
 use Rattle.base.specs.Gather.{gather, gather-self}
 use Rattle.batch.specs.declared.Batch.{Batch}
@@ -28,22 +30,27 @@ use Rattle.decide.specs.declared.Reply.{Reply}
 use Rattle.decide.specs.declared.Weighed.{Weighed}
 use Rattle.decide.specs.Scalars.{leads}
 use Rattle.decide.specs.Bars.{withBar, withFallen}
-use Rattle.decide.specs.Laws.{fallen-is}
+use Rattle.decide.specs.Laws.{fallen-is, WeighedRemains, weighed-remains}
 use Rattle.decide.specs.Decide.{awaitsPrepare, decideVote, isCounted, decideCount}
 use Rattle.decide.specs.PrepareReply.{withVoted}
+use Rattle.decide.specs.ReplyWays.{InLog}
 use Rattle.decide.specs.Weighing.{unmoved, weighedCount, weighedVote, weighed}
 use Rattle.window.specs.declared.Window.{Window}
 use Rattle.window.specs.declared.Placed.{Placed}
 use Rattle.window.specs.Window.{slotAt, putSlot, sweep, filled}
 use Rattle.window.specs.Acts.{enterActs}
+use Rattle.window.specs.Summary.{hasStatus}
+use Rattle.window.specs.Kept.{countedIn}
+use Rattle.window.specs.KeptLaws.{counted-in}
+use Rattle.window.specs.SummaryLaws.{Sums, sums-filled, put-status, sums-put-like, sums-entered, sums-steady, sums-few}
 use Rattle.window.specs.Sweeps.{Ranged, SweptIn, PromisesIn}
 use Rattle.window.specs.Bounded.{filledIn}
 use Rattle.window.specs.BoundedLaws.{filled-in}
 use Rattle.window.specs.Places.{filled-long, filled-low, filled-most}
 use Rattle.window.specs.Laws.{promises-many}
-use Rattle.window.specs.RangeLaws.{swept-in, promised-in}
+use Rattle.window.specs.RangeLaws.{swept-in, swept-self, promised-in}
 use Rattle.replica.specs.declared.Replica.{Replica}
-use Rattle.replica.specs.Record.{Outcome, kept, noting, withWindow, place, number}
+use Rattle.replica.specs.Record.{Outcome, kept, noting, summed, withWindow, place, number}
 use Rattle.replica.specs.Messages.{appended, appendActs, countedOn, votedOn, repliedOn, inRange, orKept, replyOn, cleanReply, prepareReplyStep, appendedAs}
 use Rattle.replica.specs.Step.{Told}
 use Rattle.replica.specs.Admit.{fromPeer}
@@ -67,6 +74,10 @@ read-back w i j x h =
 -- storing what is there changes nothing
 stored-back : (w : Window) (j : ℕ) (x : Slot) → x ≡ slotAt w j → putSlot w j x ≡ w
 stored-back w j x e = rw e (rw (set-getD (w .slots) j noSlot))
+
+-- where the sweep into Accept ends, once it is known whether the quorum is made
+pub swept-end : (w : Window) (j : ℕ) (g : Weighed) {t : Bool} → g .enters ≡ t → pick t (w .len) j ≡ sweptTo w j g
+swept-end w j g e = sym (ap (λ (x : Bool). pick x (w .len) j) e)
 
 -- ── what was weighed, carried out: refused, 7, or done ──
 module _ (r : Replica) (bars : PeerBars) (w : Window) (i j : ℕ) (m : Reply) (acts : List Act) (g : Weighed) where
@@ -94,6 +105,7 @@ module _ (r : Replica) (bars : PeerBars) (w : Window) (i j : ℕ) (m : Reply) (a
           window = enteredWindow;
           keys = pick (g .noted) (refresh (m .slot) (g .slot .batch) (r .keys)) (r .keys);
           reads = r .reads;
+          summary = r .summary;
         };
         actions = acts ++ enteredActs;
       }
@@ -104,7 +116,7 @@ module _ (r : Replica) (bars : PeerBars) (w : Window) (i j : ℕ) (m : Reply) (a
 module _ (r : Replica) (sc : Scalars) (bars : PeerBars) (w : Window) (i j peer : ℕ) (m : Reply) (acts : List Act) where
   -- the replica with the peer accept table
   abbrev listed : Replica
-  listed = record { sc = sc; bars = bars; window = r .window; keys = r .keys; reads = r .reads }
+  listed = record { sc = sc; bars = bars; window = r .window; keys = r .keys; reads = r .reads; summary = r .summary }
 
   abbrev done : Weighed → Outcome
   done g = carried r bars w i j m acts g
@@ -203,6 +215,9 @@ module _ (r : Replica) (sc : Scalars) (bars : PeerBars) (w : Window) (i j peer :
 fallen-start : (sc : Scalars) (b : PeerBars) (peer bar : ℕ) → withFallen sc b peer bar .start ≡ sc .start
 fallen-start sc b peer bar = ap (λ (x : Scalars). x .start) (fallen-is sc b peer bar .2)
 
+fallen-commit : (sc : Scalars) (b : PeerBars) (peer bar : ℕ) → withFallen sc b peer bar .«commit_bar» ≡ sc .«commit_bar»
+fallen-commit sc b peer bar = ap (λ (x : Scalars). x .«commit_bar») (fallen-is sc b peer bar .2)
+
 length-appended : (r : Replica) (i j : ℕ) → length (appended r i j .slots) ≡ length (r .window .slots)
 length-appended r i j = filled-long (appendedAs r j) (r .window) (i + 1)
 
@@ -221,6 +236,9 @@ module _ (r : Replica) (peer : ℕ) (m : Reply) (i j : ℕ) (w : Window) (fallen
       record { window = e ∙ filled-in _ (r .window) (i + 1) (omega arith) ∙ ap (λ (x : LeaderBook). filled (appendedSlot (r .sc .«bal_prep_sent») x) (r .window) (i + 1)) b; scalars = f; weighs = h; here = l }
 
   module _ (e : Weighs) where
+    remains : WeighedRemains fallen (slotAt w i) (slotAt w j) (eqb i j) peer m (λ z. ap (λ (k : ℕ). slotAt w k .status) (eqb-true i j z)) g
+    remains = rw (e .weighs) (weighed-remains fallen (slotAt w i) (slotAt w j) (eqb i j) peer m (λ z. ap (λ (k : ℕ). slotAt w k .status) (eqb-true i j z)))
+
     -- the sweep into Accept has room
     enter-fits : {room mid : List ℕ} {k to : ℕ} → PlacesFit r room i j → to ≡ sweptTo w j g → k ≡ 0 + (i + 1 - r .window .len) → 3456 ≤ length mid
         → Ranged j to k mid (r .sc .start)
@@ -244,14 +262,46 @@ module _ (r : Replica) (peer : ℕ) (m : Reply) (i j : ℕ) (w : Window) (fallen
     pub reply-full : {b : Bool} → g .answer ≡ 0 → b ≡ (g .noted && overfull (r .keys) (g .slot .batch)) → b ≡ true → replyAt r peer m i j ≡ kept 7 r
     reply-full a f h = reply-carried ∙ carried-full r _ w i j m _ g a (sym f ∙ h)
 
-    pub reply-told : {room mid after : List ℕ} {k to : ℕ} {p : Placed} {b : Bool} {bars : PeerBars} {keys : KeyTable} → PlacesFit r room i j → g .answer ≡ 0
+    -- the slots are appended in Preparing, the two that are put have the status that they had: only those that enter Accept count anew
+    placed-sums : {room : List ℕ} → PlacesFit r room i j → Sums (r .sc) (placed w i j g) (r .summary)
+    placed-sums f =
+        let cb : r .sc .«commit_bar» - r .sc .start ≤ r .window .len = omega (arith, f .commit-high) in
+        let a : Sums (r .sc) w (r .summary) =
+        rw (e .window) (sums-filled (r .sc) (appendedAs r j) (r .window) (i + 1) (r .summary) (omega arith) cb (f .sum)) in
+        let x = remains in
+        let b = sums-put-like (r .sc) w (r .summary) i (g .slot) (x .slot .status) a in
+        sums-put-like (r .sc) (putSlot w i (g .slot)) (r .summary) j (g .trigger) (x .trigger ∙ sym (put-status w i (g .slot) (x .slot .status) j)) b
+
+    reply-sums : {room : List ℕ} {to low more : ℕ} → PlacesFit r room i j → to ≡ sweptTo w j g → low ≡ larger j (r .sc .«commit_bar» - r .sc .start)
+        → more ≡ countedIn (placed w i j g) 1 low to
+        → Sums (g .sc) (sweep (λ n s. enteredSlot s) j (sweptTo w j g) (placed w i j g)) (record { first = r .summary .first; accepting = r .summary .accepting + more })
+    reply-sums {room} {to} {low} {more} f t q n =
+        let x = remains .slot in
+        let a : w .len ≤ 64 = rw (e .window) (filled-most (appendedAs r j) (r .window) (i + 1) 64 (f .within) (omega (arith, f .place))) in
+        let b : r .window .len ≤ w .len = rw (e .window) (filled-low (appendedAs r j) (r .window) (i + 1)) in
+        let hi : sweptTo w j g ≤ w .len = pick-both (λ (y : ℕ). y ≤ w .len) (g .enters) (omega arith) (omega (arith, f .trigger)) in
+        sums-steady (r .sc) (g .sc) _ _ (x .start ∙ ap (λ (y : Scalars). y .start) (e .scalars) ∙ fallen-start (r .sc) (r .bars) peer (m .bar))
+        (x .commit ∙ ap (λ (y : Scalars). y .«commit_bar») (e .scalars) ∙ fallen-commit (r .sc) (r .bars) peer (m .bar))
+        (sums-entered (r .sc) (placed w i j g) (r .summary) j (sweptTo w j g) refl (placed-sums f) (omega (arith, f .commit-high)) hi
+        (n ∙ counted-in (placed w i j g) 1 low to (omega arith) ∙ rw (q, t)))
+
+    -- both counts are of at most 64 slots
+    pub more-few : {room : List ℕ} {to more : ℕ} (low : ℕ) → PlacesFit r room i j → to ≡ sweptTo w j g → more ≡ countedIn (placed w i j g) 1 low to
+        → r .summary .accepting + more ≤ 128
+    more-few {room} {to} {more} low f t n =
+        let l : w .len ≤ 64 = rw (e .window) (filled-most (appendedAs r j) (r .window) (i + 1) 64 (f .within) (omega (arith, f .place))) in
+        let hi : sweptTo w j g ≤ 64 = pick-both (λ (y : ℕ). y ≤ 64) (g .enters) l (omega (arith, f .trigger, f .within)) in
+        omega (arith, n ∙ counted-in (placed w i j g) 1 low to (omega arith), howMany-few (hasStatus (placed w i j g) 1) low to, sums-few (f .sum) (f .within))
+
+    pub reply-told : {room mid after : List ℕ} {k to low more : ℕ} {p : Placed} {b : Bool} {bars : PeerBars} {keys : KeyTable} → PlacesFit r room i j → g .answer ≡ 0
         → b ≡ (g .noted && overfull (r .keys) (g .slot .batch)) → b ≡ false
         → PromisesIn (r .window .len) (i + 1) 0 (r .sc .start) (r .sc .«bal_prep_sent») room k mid → to ≡ sweptTo w j g
         → SweptIn (λ n s. enteredSlot s) (λ n s. enterActs (r .sc .start + n) (m .ballot) s) j to k (r .sc .start) (placed w i j g) mid p after
         → bars ≡ withBar (r .sc) (r .bars) peer (m .bar) → keys ≡ pick (g .noted) (refresh (m .slot) (g .slot .batch) (r .keys)) (r .keys)
-        → Told (replyAt r peer m i j)
-        (record { answer = 0; count = p .next; replica = record { sc = g .sc; bars = bars; window = p .window; keys = keys; reads = r .reads } }) room after
-    reply-told {room} {mid} {after} {k} {to} {p} {b} {bars} {keys} fits a f h x′ t y′ u v =
+        → low ≡ larger j (r .sc .«commit_bar» - r .sc .start) → more ≡ countedIn (placed w i j g) 1 low to
+        → Told (summed (replyAt r peer m i j))
+        (record { answer = 0; count = p .next; replica = record { sc = g .sc; bars = bars; window = p .window; keys = keys; reads = r .reads; summary = record { first = r .summary .first; accepting = r .summary .accepting + more } } }) room after
+    reply-told {room} {mid} {after} {k} {to} {low} {more} {p} {b} {bars} {keys} fits a f h x′ t y′ u v lo n′ =
         let first = appendActs r i in
         let x = promised-in (r .sc .start) (r .sc .«bal_prep_sent») (r .window .len) (i + 1) 0 room k mid x′ (omega (arith, fits .place)) (omega (arith, fits .place)) (fits .long) (fits .low) in
         let many = promises-many (r .sc .start) (r .sc .«bal_prep_sent») (r .window .len) (i + 1) in
@@ -260,9 +310,27 @@ module _ (r : Replica) (peer : ℕ) (m : Reply) (i j : ℕ) (w : Window) (fallen
         let second = enteredActs r (withBar (r .sc) (r .bars) peer (m .bar)) w i j m first g in
         let z = rw t at y in
         let n : k ≡ 0 + length first = omega (arith, x .next, many) in
-        acted (first ++ second) _ (p .next) refl (z .next ∙ sym (length-append first second ∙ omega arith))
+        acted {o = replyAt r peer m i j} (first ++ second) (record { sc = g .sc; bars = bars; window = p .window; keys = keys; reads = r .reads; summary = r .summary })
+        (record { first = r .summary .first; accepting = r .summary .accepting + more }) (p .next) refl (z .next ∙ sym (length-append first second ∙ omega arith))
         (write-then room mid after first second 0 k (omega arith) n (x .written) (z .written))
-        (reply-carried ∙ carried-acts r _ w i j m first g a (sym f ∙ h) ∙ rw (z .window, u, v))
+        (reply-carried ∙ carried-acts r _ w i j m first g a (sym f ∙ h) ∙ rw (z .window, u, v)) (rw (z .window) (reply-sums fits t lo n′))
+
+    -- no quorum: the two slots are put, no slot enters Accept, and the summary stands
+    pub reply-still : {room mid : List ℕ} {k : ℕ} {b : Bool} {bars : PeerBars} {keys : KeyTable} → PlacesFit r room i j → g .answer ≡ 0
+        → b ≡ (g .noted && overfull (r .keys) (g .slot .batch)) → b ≡ false
+        → PromisesIn (r .window .len) (i + 1) 0 (r .sc .start) (r .sc .«bal_prep_sent») room k mid → g .enters ≡ false
+        → bars ≡ withBar (r .sc) (r .bars) peer (m .bar) → keys ≡ pick (g .noted) (refresh (m .slot) (g .slot .batch) (r .keys)) (r .keys)
+        → Told (summed (replyAt r peer m i j))
+        (record { answer = 0; count = k; replica = record { sc = g .sc; bars = bars; window = placed w i j g; keys = keys; reads = r .reads; summary = r .summary } }) room mid
+    reply-still {room} {mid} {k} {b} {bars} {keys} fits a f h x q u v =
+        let from = larger j (r .sc .«commit_bar» - r .sc .start) in
+        let none : 0 ≡ countedIn (placed w i j g) 1 from j =
+        sym (counted-in (placed w i j g) 1 from j (omega (arith, fits .trigger, fits .within)) ∙ howMany-none (hasStatus (placed w i j g) 1) from j (larger-left j _)) in
+        let same : record { first = r .summary .first; accepting = r .summary .accepting + 0 } ≡ r .summary = rw (add-zero (r .summary .accepting)) in
+        let told =
+        reply-told {p = record { next = k; window = placed w i j g }} fits a f h x (swept-end w j g q)
+        (swept-self (λ n s. enteredSlot s) (λ n s. enterActs (r .sc .start + n) (m .ballot) s) j k (r .sc .start) (placed w i j g) mid) u v refl none in
+        rw same at told
 
 -- ── the tests before it ──
 -- the tests from the ballot on, each where those before it have passed
@@ -304,6 +372,21 @@ module _ (r : Replica) (peer : ℕ) (m : Reply) where
           pub on-at : m .slot < r .sc .start + 64 → replyOn r peer m ≡ replyAt r peer m (place (r .sc) (m .slot)) (place (r .sc) (m .trigger))
           on-at h = on-tested true true true true false (eq-eqb _ _ p) q s t (lt-leb _ _ h)
 
+-- the places of the slot and of its trigger
+pub places-fit : (r : Replica) (room : List ℕ) (m : Reply) → ReplyFits r room m → InLog (r .sc .start) (r .window .len) m → m .slot < r .sc .start + 64
+    → PlacesFit r room (m .slot - r .sc .start) (m .trigger - r .sc .start)
+places-fit r room m f g h =
+    record {
+      long = f .long;
+      low = f .low;
+      within = f .within;
+      place = omega (arith, f .from);
+      trigger = omega (arith, g .from, g .below);
+      commit-low = f .commit-low;
+      commit-high = f .commit-high;
+      sum = f .sum;
+    }
+
 -- the call's own tests
 made-answer : (b : Batch) → eqb (makeBatch (b .id) (b .count) (b .keys) .answer) 0 ≡ isBatch (b .id) (b .count)
 unfolding makeBatch
@@ -336,4 +419,12 @@ module _ (r : Replica) (room peer : ℕ) (m : Reply) where
   pub reply-fits : {lent : List ℕ} {b : Batch} {n : Reply} → fromPeer r (length lent) peer ≡ 0 → n ≡ withVoted m b → r .sc .start ≤ m .slot → ReplyFits r lent n
   reply-fits {lent} {b} {n} e f l =
       let a = peer-facts r (length lent) peer e .facts in
-      record { long = a .long; low = a .low; within = a .within; from = omega (arith, ap (λ (x : Reply). x .slot) f) }
+      record {
+        long = a .long;
+        low = a .low;
+        within = a .within;
+        from = omega (arith, ap (λ (x : Reply). x .slot) f);
+        commit-low = omega (arith, a .exec-low, a .exec-high);
+        commit-high = a .commit-high;
+        sum = a .sum;
+      }

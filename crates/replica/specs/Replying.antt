@@ -15,6 +15,7 @@ use Rattle.decide.specs.declared.Weighed.{Weighed}
 use Rattle.window.specs.declared.Window.{Window}
 use Rattle.window.specs.Window.{slotAt, putSlot, sweep}
 use Rattle.window.specs.Acts.{enterActs}
+use Rattle.window.specs.SummaryLaws.{Sums}
 use Rattle.replica.specs.declared.Replica.{Replica}
 use Rattle.replica.specs.Record.{Outcome, kept}
 use Rattle.replica.specs.Messages.{tabled, appended, appendActs, repliedOn, orKept}
@@ -25,6 +26,9 @@ pub record ReplyFits (r : Replica) (room : List ℕ) (m : Reply) : Type 0 where
   pub low : r .sc .start ≤ 4294967296
   pub within : r .window .len ≤ 64
   pub from : r .sc .start ≤ m .slot
+  pub commit-low : r .sc .start ≤ r .sc .«commit_bar»
+  pub commit-high : r .sc .«commit_bar» ≤ r .sc .start + r .window .len
+  pub sum : Sums (r .sc) (r .window) (r .summary)
 
 -- the slot at place i, its trigger at place j
 pub record PlacesFit (r : Replica) (room : List ℕ) (i j : ℕ) : Type 0 where
@@ -33,6 +37,9 @@ pub record PlacesFit (r : Replica) (room : List ℕ) (i j : ℕ) : Type 0 where
   pub within : r .window .len ≤ 64
   pub place : i < 64
   pub trigger : j < r .window .len
+  pub commit-low : r .sc .start ≤ r .sc .«commit_bar»
+  pub commit-high : r .sc .«commit_bar» ≤ r .sc .start + r .window .len
+  pub sum : Sums (r .sc) (r .window) (r .summary)
 
 -- what was weighed for the places i and j of a window, carried out: the two slots, the sweep into Accept where the quorum is made, the table of keys
 abbrev pub sweptTo : Window → ℕ → Weighed → ℕ
@@ -53,6 +60,7 @@ carried r bars w i j m acts g =
         window = sweep (λ k s. enteredSlot s) j (sweptTo w j g) (placed w i j g);
         keys = pick (g .noted) (refresh (m .slot) (g .slot .batch) (r .keys)) (r .keys);
         reads = r .reads;
+        summary = r .summary;
       };
       actions = acts ++ gather (λ k. enterActs (r .sc .start + k) (m .ballot) (slotAt (placed w i j g) k)) j (sweptTo w j g);
     }))

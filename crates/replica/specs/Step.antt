@@ -14,7 +14,7 @@ use Rattle.decide.specs.declared.Reply.{Reply}
 use Rattle.replica.specs.declared.Replica.{Replica}
 use Rattle.replica.specs.declared.Handled.{Handled}
 use Rattle.replica.specs.declared.Done.{Done}
-use Rattle.replica.specs.Record.{Outcome}
+use Rattle.replica.specs.Record.{Outcome, summed}
 use Rattle.replica.specs.Messages.{prepareStep, prepareReplyStep, acceptStep, acceptReplyStep}
 use Rattle.replica.specs.Leadership.{timeoutStep, commitNoticeStep}
 use Rattle.replica.specs.Durability.{loggedStep}
@@ -34,19 +34,23 @@ pub data Call : Type 0 where
   callOpenRead : (id count : ℕ) → List ℕ → Call
   callReadReply : (peer id : ℕ) → Bool → Tally → Call
 
--- what a call does to a replica that is lent room for so many numbers
+-- what a call does to a replica that is lent room for so many numbers, the summary aside
+abbrev pub does : Replica → ℕ → Call → Outcome
+does r room (callPrepare peer trigger ballot) = prepareStep r room peer trigger ballot
+does r room (callPrepareReply peer m) = prepareReplyStep r room peer m
+does r room (callAccept peer slot ballot b) = acceptStep r room peer slot ballot b
+does r room (callAcceptReply peer slot ballot) = acceptReplyStep r room peer slot ballot
+does r room (callCommitNotice peer ballot bar) = commitNoticeStep r room peer ballot bar
+does r room (callTimeout source) = timeoutStep r room source
+does r room (callLogged d) = loggedStep r room d
+does r room (callOffer b) = offerStep r room b
+does r room (callExecuted slot) = executedStep r room slot
+does r room (callOpenRead id count keys) = openReadStep r room id count keys
+does r room (callReadReply peer id fromLeader reply) = readReplyStep r room peer id fromLeader reply
+
+-- the same, with the summary
 abbrev pub step : Replica → ℕ → Call → Outcome
-step r room (callPrepare peer trigger ballot) = prepareStep r room peer trigger ballot
-step r room (callPrepareReply peer m) = prepareReplyStep r room peer m
-step r room (callAccept peer slot ballot b) = acceptStep r room peer slot ballot b
-step r room (callAcceptReply peer slot ballot) = acceptReplyStep r room peer slot ballot
-step r room (callCommitNotice peer ballot bar) = commitNoticeStep r room peer ballot bar
-step r room (callTimeout source) = timeoutStep r room source
-step r room (callLogged d) = loggedStep r room d
-step r room (callOffer b) = offerStep r room b
-step r room (callExecuted slot) = executedStep r room slot
-step r room (callOpenRead id count keys) = openReadStep r room id count keys
-step r room (callReadReply peer id fromLeader reply) = readReplyStep r room peer id fromLeader reply
+step r room c = summed (does r room c)
 
 abbrev pub handled : Outcome → Handled
 handled o = record { answer = o .answer; count = length (o .actions); replica = o .replica }

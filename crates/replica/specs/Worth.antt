@@ -5,11 +5,12 @@ use mathlib.Core.List.{List, []}
 use Prim.Native.Nat.{ℕ, zero, suc}
 use native.Mathlib.Omega.{arith}
 use lib.ListN.{length, replicate, length-replicate}
+use Rattle.base.specs.Scan.{scan}
 use Rattle.tally.specs.Open.{fitReads}
 use Rattle.actions.specs.Actions.{Act, writeActions}
 use Rattle.slots.specs.Slots.{fitSlot}
 use Rattle.decide.specs.Scalars.{fitScalars}
-use Rattle.window.specs.Window.{fitSlots, lastUsed, filled}
+use Rattle.window.specs.Window.{fitSlots, firstOpen, lastUsed, filled}
 use Rattle.replica.specs.declared.Replica.{Replica}
 use Rattle.replica.specs.declared.Handled.{Handled}
 use Rattle.replica.specs.Record.{Outcome, kept, newReplica}
@@ -49,15 +50,15 @@ asked = callPrepare 0 0 257
 
 -- what `step` gives of that Prepare: 0, one slot, one action
 pub asked-answer : step young 3456 asked .answer ≡ 0
-unfolding newReplica fit fitScalars fitSlots fitReads filled prepareOn prepareStep lastUsed
+unfolding newReplica fit fitScalars fitSlots fitReads filled prepareOn prepareStep lastUsed firstOpen scan
 asked-answer = refl
 
 pub asked-count : length (step young 3456 asked .actions) ≡ 1
-unfolding newReplica fit fitScalars fitSlots fitReads filled prepareOn prepareStep lastUsed
+unfolding newReplica fit fitScalars fitSlots fitReads filled prepareOn prepareStep lastUsed firstOpen scan
 asked-count = refl
 
 pub asked-again : length (step (step young 3456 asked .replica) 3456 asked .actions) ≡ 1
-unfolding newReplica fit fitScalars fitSlots fitReads fitSlot filled prepareOn prepareStep lastUsed
+unfolding newReplica fit fitScalars fitSlots fitReads fitSlot filled prepareOn prepareStep lastUsed firstOpen scan
 asked-again = refl
 
 -- a Prepare from no member: 2, and no action
@@ -65,7 +66,7 @@ abbrev pub stranger : Call
 stranger = callPrepare 3 0 260
 
 pub stranger-count : length (step young 3456 stranger .actions) ≡ 0
-unfolding newReplica fit fitScalars fitSlots fitReads filled prepareOn prepareStep lastUsed
+unfolding newReplica fit fitScalars fitSlots fitReads filled prepareOn prepareStep lastUsed firstOpen scan
 stranger-count = refl
 
 -- "the program that answers 8 to all", whatever else it gives

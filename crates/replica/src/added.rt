@@ -1,8 +1,8 @@
 // 01, "Added calls": offer and executed.
 ghost use mathlib.Core.Path.{_≡_};
 ghost use lib.ListN.{length};
-ghost use Rattle.replica.specs.Added.{offerStep, movedExec, executedStep};
-ghost use Rattle.replica.specs.Step.{Told};
+ghost use Rattle.replica.specs.Added.{movedExec};
+ghost use Rattle.replica.specs.Step.{callOffer, callExecuted, step, Told};
 ghost use Rattle.replica.specs.AddedFits.{ExecFits};
 use super::Handled;
 use super::Replica;
@@ -13,10 +13,11 @@ use window::Window;
 impl Replica {
     // A batch is offered to the leader: it takes the slot at the log end.
     pub fn offer(self, room: &mut [u64], batch: Batch) -> Handled
-        ensures { λ r. ⌜ Told (offerStep self (length (now (room .entry))) batch) r (now (room .entry)) (now (room .exit)) ⌝ }
+        ensures { λ r. ⌜ Told (step self (length (now (room .entry))) (callOffer batch)) r (now (room .entry)) (now (room .exit)) ⌝ }
     {
-        if !self.is_ready(room.len()) {
-            return self.kept(1);
+        let first = self.test_ready(room.len());
+        if first != 0 {
+            return self.kept(first);
         }
         let keys = batch.keys;
         let made = make(batch.id, batch.count, keys);
@@ -58,10 +59,11 @@ impl Replica {
 
     // The host has executed the batch of a slot.
     pub fn executed(self, room: &mut [u64], slot: u64) -> Handled
-        ensures { λ r. ⌜ Told (executedStep self (length (now (room .entry))) slot) r (now (room .entry)) (now (room .exit)) ⌝ }
+        ensures { λ r. ⌜ Told (step self (length (now (room .entry))) (callExecuted slot)) r (now (room .entry)) (now (room .exit)) ⌝ }
     {
-        if !self.is_ready(room.len()) {
-            return self.kept(1);
+        let first = self.test_ready(room.len());
+        if first != 0 {
+            return self.kept(first);
         }
         let sc = self.sc;
         if slot < sc.start {

@@ -6,8 +6,9 @@ ghost use lib.ListN.{length};
 ghost use Rattle.base.specs.Pick.{pick};
 ghost use Rattle.window.specs.Window.{slotAt};
 ghost use Rattle.window.specs.Sweeps.{TwoFit};
-ghost use Rattle.replica.specs.Durability.{noticeActs, preparedDone, movedAccept, acceptedDone, passOn, committedDone, doneOn, loggedOn, loggedStep};
-ghost use Rattle.replica.specs.Step.{Told};
+ghost use Rattle.replica.specs.Record.{summed};
+ghost use Rattle.replica.specs.Durability.{noticeActs, preparedDone, movedAccept, acceptedDone, passOn, committedDone, doneOn, loggedOn};
+ghost use Rattle.replica.specs.Step.{callLogged, step, Told};
 ghost use Rattle.replica.specs.CompletionFits.{BarsFit, CommitFits, DoneFits, PassFits, Wrote};
 use super::Done;
 use super::Entry;
@@ -40,10 +41,11 @@ fn put_notice(room: &mut [u64], n: usize, still: bool, sc: Scalars, bar: u64, en
 impl Replica {
     // A log completion.
     pub fn logged(self, room: &mut [u64], done: Done) -> Handled
-        ensures { λ r. ⌜ Told (loggedStep self (length (now (room .entry))) done) r (now (room .entry)) (now (room .exit)) ⌝ }
+        ensures { λ r. ⌜ Told (step self (length (now (room .entry))) (callLogged done)) r (now (room .entry)) (now (room .exit)) ⌝ }
     {
-        if !self.is_ready(room.len()) {
-            return self.kept(1);
+        let first = self.test_ready(room.len());
+        if first != 0 {
+            return self.kept(first);
         }
         let sc = self.sc;
         if done.slot < sc.start {
@@ -85,7 +87,7 @@ impl Replica {
     // The entry's handler, for the slot at place i.
     fn done_on(self, room: &mut [u64], i: usize, slot: u64, entry: Entry) -> Handled
         requires { ⌜ DoneFits self i slot (now room) ⌝ }
-        ensures { λ r. ⌜ Told (doneOn self i slot entry) r (now (room .entry)) (now (room .exit)) ⌝ }
+        ensures { λ r. ⌜ Told (summed (doneOn self i slot entry)) r (now (room .entry)) (now (room .exit)) ⌝ }
     {
         match entry {
             Entry::PrepareBal => self.prepared_done(room, i, slot),
@@ -97,7 +99,7 @@ impl Replica {
     // A PrepareBal is logged: a leader answers itself for slots up to its endprep, a follower the source.
     fn prepared_done(self, room: &mut [u64], i: usize, slot: u64) -> Handled
         requires { ⌜ DoneFits self i slot (now room) ⌝ }
-        ensures { λ r. ⌜ Told (preparedDone self i slot (slotAt (self .window) i)) r (now (room .entry)) (now (room .exit)) ⌝ }
+        ensures { λ r. ⌜ Told (summed (preparedDone self i slot (slotAt (self .window) i))) r (now (room .entry)) (now (room .exit)) ⌝ }
     {
         let sc = self.sc;
         let w = self.window;
@@ -119,7 +121,7 @@ impl Replica {
     // An AcceptData is logged: a vote, told to the leader or counted by it, and accept_bar moves.
     fn accepted_done(self, room: &mut [u64], i: usize, slot: u64) -> Handled
         requires { ⌜ DoneFits self i slot (now room) ⌝ }
-        ensures { λ r. ⌜ Told (acceptedDone self i slot (slotAt (self .window) i)) r (now (room .entry)) (now (room .exit)) ⌝ }
+        ensures { λ r. ⌜ Told (summed (acceptedDone self i slot (slotAt (self .window) i))) r (now (room .entry)) (now (room .exit)) ⌝ }
     {
         let sc = self.sc;
         let w = self.window;
@@ -159,7 +161,7 @@ impl Replica {
     // A CommitSlot is logged: commit_bar moves to the first slot below Committed, where the slot logged stands at it.
     fn committed_done(self, room: &mut [u64], slot: u64) -> Handled
         requires { ⌜ CommitFits self (now room) ⌝ }
-        ensures { λ r. ⌜ Told (committedDone self slot) r (now (room .entry)) (now (room .exit)) ⌝ }
+        ensures { λ r. ⌜ Told (summed (committedDone self slot)) r (now (room .entry)) (now (room .exit)) ⌝ }
     {
         let sc = self.sc;
         if slot != sc.commit_bar {
@@ -175,7 +177,7 @@ impl Replica {
     // commit_bar walks from one place to another: the slots it passes, then the notice.
     fn pass_on(mut self, room: &mut [u64], from: usize, stop: usize) -> Handled
         requires { ⌜ PassFits self from stop (now room) ⌝ }
-        ensures { λ r. ⌜ Told (passOn self from stop) r (now (room .entry)) (now (room .exit)) ⌝ }
+        ensures { λ r. ⌜ Told (summed (passOn self from stop)) r (now (room .entry)) (now (room .exit)) ⌝ }
     {
         let sc = self.sc;
         let w = self.window;

@@ -1,10 +1,10 @@
 // 001, leadership.rs: a timeout (become_a_leader) and CommitNotice (advance_commit_bar).
 ghost use lib.ListN.{length};
 ghost use Rattle.members.specs.declared.NextBallot.the-variants.{Ballot};
-ghost use Rattle.window.specs.Sweeps.{Ranged};
-ghost use Rattle.replica.specs.Leadership.{leadOn, stepUp, timeoutStep, markOn, commitNoticeStep};
-ghost use Rattle.replica.specs.Step.{Told};
-ghost use Rattle.replica.specs.ElectionFits.{StepFits, LeadFits};
+ghost use Rattle.replica.specs.Record.{summed};
+ghost use Rattle.replica.specs.Leadership.{leadOn, stepUp, markOn};
+ghost use Rattle.replica.specs.Step.{callCommitNotice, callTimeout, step, Told};
+ghost use Rattle.replica.specs.ElectionFits.{StepFits, LeadFits, MarkFits};
 use super::Handled;
 use super::Replica;
 use actions::Action;
@@ -14,12 +14,13 @@ use decide::unknown_bars;
 use members::NextBallot;
 use members::next_ballot;
 use slots::new_book;
+use window::Summary;
 use window::Window;
 
 impl Replica {
     // A timeout of the timer for `source`.
     pub fn timeout(self, room: &mut [u64], source: u64) -> Handled
-        ensures { λ r. ⌜ Told (timeoutStep self (length (now (room .entry))) source) r (now (room .entry)) (now (room .exit)) ⌝ }
+        ensures { λ r. ⌜ Told (step self (length (now (room .entry))) (callTimeout source)) r (now (room .entry)) (now (room .exit)) ⌝ }
     {
         let first = self.from_member(room.len(), source);
         if first != 0 {
@@ -36,18 +37,18 @@ impl Replica {
         self.step_up(room, ballot)
     }
 
-    // 8 and 5, then the trigger slot is there.
+    // 8 and 5, then the trigger slot is there: the first open one, as the summary has it.
     fn step_up(self, room: &mut [u64], ballot: u64) -> Handled
-        requires { ⌜ StepFits self (now room) ⌝ }
-        ensures { λ r. ⌜ Told (stepUp self (Ballot ballot)) r (now (room .entry)) (now (room .exit)) ⌝ }
+        requires { ⌜ StepFits self (self .window) (now room) ⌝ }
+        ensures { λ r. ⌜ Told (summed (stepUp self (Ballot ballot))) r (now (room .entry)) (now (room .exit)) ⌝ }
     {
         let sc = self.sc;
         let old = self.window;
-        let open = old.stop(0, old.len, 0, 3);
-        let trigger = sc.start + open as u64;
+        let trigger = self.summary.first;
         if trigger < sc.exec_bar {
             return self.kept(8);
         }
+        let open = (trigger - sc.start) as usize;
         if 64 <= open {
             return self.kept(5);
         }
@@ -67,8 +68,8 @@ impl Replica {
         endprep: u64,
         ballot: u64,
     ) -> Handled
-        requires { ⌜ LeadFits self w (now room) ⌝ }
-        ensures { λ r. ⌜ Told (leadOn self w trigger endprep ballot) r (now (room .entry)) (now (room .exit)) ⌝ }
+        requires { ⌜ LeadFits self w trigger (now room) ⌝ }
+        ensures { λ r. ⌜ Told (summed (leadOn self w trigger endprep ballot)) r (now (room .entry)) (now (room .exit)) ⌝ }
     {
         let up = Action::StatusUp;
         put_action(room, 0, up, [0u64; 8]);
@@ -91,6 +92,11 @@ impl Replica {
         self.sc = leading;
         let bars = unknown_bars(self.bars.own);
         self.bars = bars;
+        let sum = Summary {
+            first: trigger,
+            accepting: 0,
+        };
+        self.summary = sum;
         Handled {
             answer: 0,
             count: count,
@@ -100,7 +106,7 @@ impl Replica {
 
     // A CommitNotice: the slots below the told bar are there, and marked up to the first that may not be.
     pub fn commit_notice(self, room: &mut [u64], peer: u64, ballot: u64, bar: u64) -> Handled
-        ensures { λ r. ⌜ Told (commitNoticeStep self (length (now (room .entry))) peer ballot bar) r (now (room .entry)) (now (room .exit)) ⌝ }
+        ensures { λ r. ⌜ Told (step self (length (now (room .entry))) (callCommitNotice peer ballot bar)) r (now (room .entry)) (now (room .exit)) ⌝ }
     {
         let first = self.from_owner(room.len(), peer, ballot);
         if first != 0 {
@@ -127,13 +133,23 @@ impl Replica {
 
     // The slots from one place up to another marked, with their entries.
     fn mark_on(mut self, room: &mut [u64], w: Window, from: usize, stop: usize) -> Handled
-        requires { ⌜ Ranged from stop 0 (now room) (self .sc .start) ⌝ }
-        ensures { λ r. ⌜ Told (markOn self w from stop) r (now (room .entry)) (now (room .exit)) ⌝ }
+        requires { ⌜ MarkFits self w from stop (now room) ⌝ }
+        ensures { λ r. ⌜ Told (summed (markOn self w from stop)) r (now (room .entry)) (now (room .exit)) ⌝ }
     {
         let p = w.mark_range(room, 0, from, stop, self.sc.start);
         let window = p.window;
         self.window = window;
         let count = p.next;
+        let known = self.summary;
+        let left = known.accepting - count as u64;
+        let at = (known.first - self.sc.start) as usize;
+        let open = window.stop(at, window.len, 0, 3);
+        let first = self.sc.start + open as u64;
+        let sum = Summary {
+            first: first,
+            accepting: left,
+        };
+        self.summary = sum;
         Handled {
             answer: 0,
             count: count,

@@ -1,8 +1,7 @@
-// A new replica, the fit test (answer 1), and what every call is tested for first.
+// A new replica, the first tests (answers 1 and 14), and what every call is tested for first.
 ghost use mathlib.Core.Path.{_≡_};
 ghost use Rattle.replica.specs.Record.{newReplica};
-ghost use Rattle.replica.specs.Fit.{fit, ready};
-ghost use Rattle.replica.specs.Admit.{fromMember, fromPeer, fromOwner};
+ghost use Rattle.replica.specs.Admit.{readyAnswer, fromMember, fromPeer, fromOwner};
 use super::Handled;
 use super::Made;
 use super::Replica;
@@ -11,6 +10,7 @@ use decide::PeerBars;
 use decide::Scalars;
 use decide::may_be;
 use tally::open_reads::no_reads;
+use window::Summary;
 use window::no_slots;
 
 impl Replica {
@@ -47,6 +47,10 @@ impl Replica {
                 window: window,
                 keys: keys,
                 reads: reads,
+                summary: Summary {
+                    first: 0,
+                    accepting: 0,
+                },
             };
             return Made {
                 answer: 10,
@@ -78,6 +82,10 @@ impl Replica {
             window: window,
             keys: keys,
             reads: reads,
+            summary: Summary {
+                first: start,
+                accepting: 0,
+            },
         };
         Made {
             answer: 0,
@@ -85,41 +93,47 @@ impl Replica {
         }
     }
 
-    // Whether calls may be made on the record.
-    pub(crate) fn is_fit(self) -> bool
-        ensures { λ r. ⌜ r ≡ fit self ⌝ }
+    // 1 where the room is too short or the record unfit, 14 where the summary is not the walk's, or 0. The slots are walked once.
+    pub(crate) fn test_ready(self, room: usize) -> u64
+        ensures { λ r. ⌜ r ≡ readyAnswer self room ⌝ }
     {
+        if room < 3456 {
+            return 1;
+        }
         let w = self.window;
         let sc = self.sc;
         if !sc.is_fit(w.len) {
-            return false;
+            return 1;
         }
-        if !w.is_fit(self.sc.group) {
-            return false;
+        let from = (sc.commit_bar - sc.start) as usize;
+        let seen = w.survey(sc.group, from);
+        if !seen.fit {
+            return 1;
         }
         if 256 < self.keys.count {
-            return false;
+            return 1;
         }
         let reads = self.reads;
-        reads.is_fit(self.sc.group)
-    }
-
-    // Whether the room is long enough and the record fit: else 1.
-    pub(crate) fn is_ready(self, room: usize) -> bool
-        ensures { λ r. ⌜ r ≡ ready self room ⌝ }
-    {
-        if room < 3456 {
-            return false;
+        if !reads.is_fit(sc.group) {
+            return 1;
         }
-        self.is_fit()
+        let first = sc.start + seen.first as u64;
+        if self.summary.first != first {
+            return 14;
+        }
+        if self.summary.accepting != seen.accepting {
+            return 14;
+        }
+        0
     }
 
-    // 1, 2 where the call comes from no member, or 0.
+    // 1, 14, 2 where the call comes from no member, or 0.
     pub(crate) fn from_member(self, room: usize, member: u64) -> u64
         ensures { λ r. ⌜ r ≡ fromMember self room member ⌝ }
     {
-        if !self.is_ready(room) {
-            return 1;
+        let first = self.test_ready(room);
+        if first != 0 {
+            return first;
         }
         if self.sc.group <= member {
             return 2;
@@ -127,12 +141,13 @@ impl Replica {
         0
     }
 
-    // 1, 2 where the call comes from no other member, or 0.
+    // 1, 14, 2 where the call comes from no other member, or 0.
     pub(crate) fn from_peer(self, room: usize, peer: u64) -> u64
         ensures { λ r. ⌜ r ≡ fromPeer self room peer ⌝ }
     {
-        if !self.is_ready(room) {
-            return 1;
+        let first = self.test_ready(room);
+        if first != 0 {
+            return first;
         }
         let sc = self.sc;
         if !sc.is_peer(peer) {

@@ -12,6 +12,7 @@ use batch::KeyTable;
 use decide::PeerBars;
 use decide::Scalars;
 use tally::Reads;
+use window::Summary;
 use window::Window;
 
 pub struct Replica {
@@ -20,6 +21,7 @@ pub struct Replica {
     pub window: Window,
     pub keys: KeyTable,
     pub reads: Reads,
+    pub summary: Summary,
 }
 
 // What a call hands back: its answer, how many actions the room has, and the replica after it.

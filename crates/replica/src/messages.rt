@@ -1,8 +1,9 @@
 // 000, messages.rs: Prepare, Accept, AcceptReply. PrepareReply has a file of its own.
 ghost use Prim.Native.Nat.{_≤_};
 ghost use lib.ListN.{length};
-ghost use Rattle.replica.specs.Messages.{prepareOn, prepareStep, acceptStep, acceptReplyStep};
-ghost use Rattle.replica.specs.Step.{Told};
+ghost use Rattle.replica.specs.Record.{summed};
+ghost use Rattle.replica.specs.Messages.{prepareOn};
+ghost use Rattle.replica.specs.Step.{callPrepare, callAccept, callAcceptReply, step, Told};
 ghost use Rattle.replica.specs.MessageFits.{WroteDown, PrepareFits};
 use super::Handled;
 use super::Replica;
@@ -31,7 +32,7 @@ fn put_down(room: &mut [u64], sc: Scalars, ballot: u64) -> usize
 impl Replica {
     // A Prepare from a peer.
     pub fn prepare(self, room: &mut [u64], peer: u64, trigger: u64, ballot: u64) -> Handled
-        ensures { λ r. ⌜ Told (prepareStep self (length (now (room .entry))) peer trigger ballot) r (now (room .entry)) (now (room .exit)) ⌝ }
+        ensures { λ r. ⌜ Told (step self (length (now (room .entry))) (callPrepare peer trigger ballot)) r (now (room .entry)) (now (room .exit)) ⌝ }
     {
         let first = self.from_owner(room.len(), peer, ballot);
         if first != 0 {
@@ -63,7 +64,7 @@ impl Replica {
         ballot: u64,
     ) -> Handled
         requires { ⌜ PrepareFits self w from (now room) ⌝ }
-        ensures { λ r. ⌜ Told (prepareOn self w from peer ballot) r (now (room .entry)) (now (room .exit)) ⌝ }
+        ensures { λ r. ⌜ Told (summed (prepareOn self w from peer ballot)) r (now (room .entry)) (now (room .exit)) ⌝ }
     {
         let last = w.last_used();
         let top = larger_of(from, last);
@@ -86,6 +87,11 @@ impl Replica {
         self.window = next;
         let followed = sc.followed(peer, ballot);
         self.sc = followed;
+        let bar = (sc.commit_bar - sc.start) as usize;
+        let below = w.count_at(2, bar, from);
+        let known = self.summary;
+        let sum = known.prepared_from(trigger, below);
+        self.summary = sum;
         Handled {
             answer: 0,
             count: p.next,
@@ -102,7 +108,7 @@ impl Replica {
         ballot: u64,
         batch: Batch,
     ) -> Handled
-        ensures { λ r. ⌜ Told (acceptStep self (length (now (room .entry))) peer slot ballot batch) r (now (room .entry)) (now (room .exit)) ⌝ }
+        ensures { λ r. ⌜ Told (step self (length (now (room .entry))) (callAccept peer slot ballot batch)) r (now (room .entry)) (now (room .exit)) ⌝ }
     {
         let first = self.from_owner(room.len(), peer, ballot);
         if first != 0 {
@@ -134,7 +140,7 @@ impl Replica {
 
     // An AcceptReply from a peer.
     pub fn accept_reply(self, room: &mut [u64], peer: u64, slot: u64, ballot: u64) -> Handled
-        ensures { λ r. ⌜ Told (acceptReplyStep self (length (now (room .entry))) peer slot ballot) r (now (room .entry)) (now (room .exit)) ⌝ }
+        ensures { λ r. ⌜ Told (step self (length (now (room .entry))) (callAcceptReply peer slot ballot)) r (now (room .entry)) (now (room .exit)) ⌝ }
     {
         let first = self.from_peer(room.len(), peer);
         if first != 0 {

@@ -3,9 +3,10 @@ ghost use mathlib.Core.Path.{_≡_};
 ghost use mathlib.Core.List.{[], _∷_};
 ghost use lib.ListN.{length};
 ghost use Rattle.actions.specs.Actions.{writeAt};
-ghost use Rattle.replica.specs.Quorumread.{openReadStep, answerAct, repliedStep, readReplyStep};
-ghost use Rattle.replica.specs.Step.{Told};
-ghost use Rattle.replica.specs.ReadCalls.{AnswerFits, AnswersFit, Answers};
+ghost use Rattle.replica.specs.Record.{summed};
+ghost use Rattle.replica.specs.Quorumread.{answerAct, repliedStep};
+ghost use Rattle.replica.specs.Step.{callOpenRead, callReadReply, step, Told};
+ghost use Rattle.replica.specs.ReadCalls.{AnswerFits, AnswersFit, RepliedFits, Answers};
 use super::Handled;
 use super::Replica;
 use actions::Action;
@@ -49,10 +50,11 @@ fn put_answers(room: &mut [u64], leader: u64, read: Read, answers: usize)
 impl Replica {
     // A read opens: its answer is that of the table of reads.
     pub fn open_read(mut self, room: &mut [u64], id: u64, count: usize, keys: [u64; 8]) -> Handled
-        ensures { λ r. ⌜ Told (openReadStep self (length (now (room .entry))) id count keys) r (now (room .entry)) (now (room .exit)) ⌝ }
+        ensures { λ r. ⌜ Told (step self (length (now (room .entry))) (callOpenRead id count keys)) r (now (room .entry)) (now (room .exit)) ⌝ }
     {
-        if !self.is_ready(room.len()) {
-            return self.kept(1);
+        let first = self.test_ready(room.len());
+        if first != 0 {
+            return self.kept(first);
         }
         let old = self.reads;
         let o = old.open_read(id, count, keys);
@@ -67,8 +69,8 @@ impl Replica {
 
     // What a reply makes of the read at place i: it closes and answers, stays open, or the reply is refused.
     fn replied(mut self, room: &mut [u64], i: usize, d: Replied) -> Handled
-        requires { ⌜ AnswersFit (d .answers) (now room) ⌝ }
-        ensures { λ r. ⌜ Told (repliedStep self i d) r (now (room .entry)) (now (room .exit)) ⌝ }
+        requires { ⌜ RepliedFits self d (now room) ⌝ }
+        ensures { λ r. ⌜ Told (summed (repliedStep self i d)) r (now (room .entry)) (now (room .exit)) ⌝ }
     {
         let old = self.reads;
         let read = d.read;
@@ -103,7 +105,7 @@ impl Replica {
         from_leader: bool,
         reply: Tally,
     ) -> Handled
-        ensures { λ r. ⌜ Told (readReplyStep self (length (now (room .entry))) peer id «from_leader» reply) r (now (room .entry)) (now (room .exit)) ⌝ }
+        ensures { λ r. ⌜ Told (step self (length (now (room .entry))) (callReadReply peer id «from_leader» reply)) r (now (room .entry)) (now (room .exit)) ⌝ }
     {
         let first = self.from_member(room.len(), peer);
         if first != 0 {

@@ -1,7 +1,8 @@
 // 000, messages.rs: PrepareReply. Everything is decided before the first action is written.
 ghost use lib.ListN.{length};
-ghost use Rattle.replica.specs.Messages.{replyOn, prepareReplyStep};
-ghost use Rattle.replica.specs.Step.{Told};
+ghost use Rattle.replica.specs.Record.{summed};
+ghost use Rattle.replica.specs.Messages.{replyOn};
+ghost use Rattle.replica.specs.Step.{callPrepareReply, step, Told};
 ghost use Rattle.replica.specs.Replying.{replyAt, ReplyFits, PlacesFit};
 use super::Handled;
 use super::Replica;
@@ -9,13 +10,14 @@ use batch::make;
 use decide::Reply;
 use decide::bad_vote;
 use slots::new_book;
-use window::chosen;
+use window::Summary;
+use window::larger_of;
 use window::put_promises;
 
 impl Replica {
     // A PrepareReply from a peer.
     pub fn prepare_reply(self, room: &mut [u64], peer: u64, m: Reply) -> Handled
-        ensures { λ r. ⌜ Told (prepareReplyStep self (length (now (room .entry))) peer m) r (now (room .entry)) (now (room .exit)) ⌝ }
+        ensures { λ r. ⌜ Told (step self (length (now (room .entry))) (callPrepareReply peer m)) r (now (room .entry)) (now (room .exit)) ⌝ }
     {
         let first = self.from_peer(room.len(), peer);
         if first != 0 {
@@ -39,7 +41,7 @@ impl Replica {
     // From the test of the ballot on: also a leader's own log completion.
     pub(crate) fn reply_on(self, room: &mut [u64], peer: u64, m: Reply) -> Handled
         requires { ⌜ ReplyFits self (now room) m ⌝ }
-        ensures { λ r. ⌜ Told (replyOn self peer m) r (now (room .entry)) (now (room .exit)) ⌝ }
+        ensures { λ r. ⌜ Told (summed (replyOn self peer m)) r (now (room .entry)) (now (room .exit)) ⌝ }
     {
         let sc = self.sc;
         if m.ballot != sc.bal_prep_sent {
@@ -68,7 +70,7 @@ impl Replica {
     // The slot at place i, its trigger at place j.
     fn reply_at(mut self, room: &mut [u64], peer: u64, m: Reply, i: usize, j: usize) -> Handled
         requires { ⌜ PlacesFit self (now room) i j ⌝ }
-        ensures { λ r. ⌜ Told (replyAt self peer m i j) r (now (room .entry)) (now (room .exit)) ⌝ }
+        ensures { λ r. ⌜ Told (summed (replyAt self peer m i j)) r (now (room .entry)) (now (room .exit)) ⌝ }
     {
         let sc = self.sc;
         let bars = self.bars;
@@ -97,16 +99,35 @@ impl Replica {
         w.slots[i] = next;
         let counted = g.trigger;
         w.slots[j] = counted;
-        let to = chosen(g.enters, w.len, j);
-        let p = w.enter_range(room, k, j, to, sc.start, m.ballot);
-        let window = p.window;
-        self.window = window;
         let after = g.sc;
         self.sc = after;
         let table = bars.with_bar(sc, peer, m.bar);
         self.bars = table;
         let noted = keys.note_if(g.noted, m.slot, batch);
         self.keys = noted;
+        // most replies make no quorum: no slot enters Accept, and the summary stands
+        if !g.enters {
+            self.window = w;
+            return Handled {
+                answer: 0,
+                count: k,
+                replica: self,
+            };
+        }
+        let to = w.len;
+        let p = w.enter_range(room, k, j, to, sc.start, m.ballot);
+        let window = p.window;
+        self.window = window;
+        let bar = (sc.commit_bar - sc.start) as usize;
+        let low = larger_of(j, bar);
+        let more = w.count_at(1, low, to);
+        let known = self.summary;
+        let accepting = known.accepting + more;
+        let sum = Summary {
+            first: known.first,
+            accepting: accepting,
+        };
+        self.summary = sum;
         Handled {
             answer: 0,
             count: p.next,

@@ -1,10 +1,12 @@
-use mathlib.Core.Path.{sym, _∙_}
+use borrow.Author.Tests.{ne-eqb}
+use mathlib.Core.Path.{refl, sym, _∙_}
+use Prim.Native.Nat.{_-_}
 use native.Mathlib.Omega.{arith}
 use lib.ListN.{length}
 use denote.Ref.{now}
 use Rattle.replica.specs.AdmitLaws.{Ready, owner-facts}
-use Rattle.replica.specs.ActingLaws.{refuse, told}
-use Rattle.replica.specs.MessageLaws.{accept-shut, accept-unmade, accept-below, accept-old, accept-past, accept-goes}
+use Rattle.replica.specs.ActingLaws.{refuse, keep, told}
+use Rattle.replica.specs.MessageLaws.{accept-fits, accept-shut, accept-unmade, accept-below, accept-old, accept-past, accept-goes}
 use borrow.Author.Needs.{needs}
 use Rattle.replica.proofs.Replica.accept.Statement.{statement}
 use Rattle.replica.proofs.Replica.accept.Tie as tie
@@ -24,7 +26,7 @@ returns : tie.Need-returns
 returns c =
     let o = c .before .before in
     let a = o .before .before .args in
-    refuse _ (a .self) (c .kept .ensures) (accept-shut (a .self) _ (a .peer) (a .slot) (a .ballot) (a .batch) _ (o .from-owner .ensures) (c .before .if1 .taken))
+    refuse _ (a .self) (c .kept .ensures) (accept-shut (a .self) _ (a .peer) (a .slot) (a .ballot) (a .batch) _ (o .from-owner .ensures) (c .before .if1 .taken)) (ne-eqb _ 0 (c .before .if1 .taken))
 
 make-requires : tie.Need-make-requires
 make-requires c κs = search needs
@@ -38,7 +40,7 @@ returns-2 c =
     let e = m .before .before in
     let a = e .before .before .before .args in
     refuse 10 (a .self) (c .kept2 .ensures)
-    (accept-unmade (a .self) _ (a .peer) (a .slot) (a .ballot) (a .batch) _ (e .before .from-owner .ensures) (e .if1 .left) _ (m .make .ensures) (c .before .if2 .taken))
+    (accept-unmade (a .self) _ (a .peer) (a .slot) (a .ballot) (a .batch) _ (e .before .from-owner .ensures) (e .if1 .left) _ (m .make .ensures) (c .before .if2 .taken)) refl
 
 kept-requires-3 : tie.Need-kept-requires-3
 kept-requires-3 c κs = search needs
@@ -49,8 +51,9 @@ returns-3 c =
     let m = e2 .before .before in
     let e = m .before .before in
     let a = e .before .before .before .args in
-    refuse 0 (a .self) (c .kept3 .ensures)
+    keep 0 (a .self) (c .kept3 .ensures)
     (accept-below (a .self) _ (a .peer) (a .slot) (a .ballot) (a .batch) _ (e .before .from-owner .ensures) (e .if1 .left) _ (m .make .ensures) (e2 .if2 .left) (c .before .if3 .taken))
+    (facts e .sum)
 
 kept-requires-4 : tie.Need-kept-requires-4
 kept-requires-4 c κs = search needs
@@ -62,8 +65,9 @@ returns-4 c =
     let m = e2 .before .before in
     let e = m .before .before in
     let a = e .before .before .before .args in
-    refuse 0 (a .self) (c .kept4 .ensures)
+    keep 0 (a .self) (c .kept4 .ensures)
     (accept-old (a .self) _ (a .peer) (a .slot) (a .ballot) (a .batch) _ (e .before .from-owner .ensures) (e .if1 .left) _ (m .make .ensures) (e2 .if2 .left) (e3 .if3 .left) (c .before .if4 .taken))
+    (facts e .sum)
 
 add-if5 : tie.Need-add-if5
 add-if5 c =
@@ -82,7 +86,7 @@ returns-5 c =
     let e = m .before .before in
     let a = e .before .before .before .args in
     refuse 5 (a .self) (c .kept5 .ensures)
-    (accept-past (a .self) _ (a .peer) (a .slot) (a .ballot) (a .batch) _ (e .before .from-owner .ensures) (e .if1 .left) _ (m .make .ensures) (e2 .if2 .left) (e3 .if3 .left) (e4 .if4 .left) (c .before .if5 .taken))
+    (accept-past (a .self) _ (a .peer) (a .slot) (a .ballot) (a .batch) _ (e .before .from-owner .ensures) (e .if1 .left) _ (m .make .ensures) (e2 .if2 .left) (e3 .if3 .left) (e4 .if4 .left) (c .before .if5 .taken)) refl
 
 add-grow-to : tie.Need-add-grow-to
 add-grow-to c = search needs
@@ -101,9 +105,12 @@ decide-accept-requires c κs = search needs
 
 settle-requires : tie.Need-settle-requires
 settle-requires c κs =
-    let e5 = c .before .before .before .before .before .before .before in
-    let f = facts (e5 .before .before .before .before .before .before .before .before .before .before .before) in
-    omega arith
+    let d = c .before in
+    let g = d .before .before .before in
+    let e5 = g .before .before .before in
+    let e = e5 .before .before .before .before .before .before .before .before .before .before .before in
+    let a = e .before .before .before .args in
+    accept-fits (a .self) (a .slot - a .self .sc .start) (a .peer) (a .slot) (a .ballot) _ _ (facts e) (g .grow-to .ensures) (omega (arith, e5 .if5 .left)) (omega (arith, e5 .before .before .before .before .if3 .left)) (d .decide-accept .ensures)
 
 same-length : tie.Need-same-length
 same-length c = search needs

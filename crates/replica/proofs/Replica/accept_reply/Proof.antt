@@ -1,11 +1,12 @@
-use mathlib.Core.Path.{sym, _∙_}
+use borrow.Author.Tests.{ne-eqb}
+use mathlib.Core.Path.{refl, sym, _∙_}
 use Prim.Native.Nat.{_-_, _<_}
 use native.Mathlib.Omega.{arith}
 use lib.ListN.{length}
 use denote.Ref.{now}
 use Rattle.replica.specs.AdmitLaws.{Ready, peer-facts}
-use Rattle.replica.specs.ActingLaws.{refuse, told}
-use Rattle.replica.specs.MessageLaws.{acceptReply-shut, acceptReply-below, acceptReply-other, acceptReply-past, acceptReply-goes}
+use Rattle.replica.specs.ActingLaws.{refuse, keep, told}
+use Rattle.replica.specs.MessageLaws.{acceptReply-fits, acceptReply-shut, acceptReply-below, acceptReply-other, acceptReply-past, acceptReply-goes}
 use borrow.Author.Needs.{needs}
 use Rattle.replica.proofs.Replica.accept_reply.Statement.{statement}
 use Rattle.replica.proofs.Replica.accept_reply.Tie as tie
@@ -33,7 +34,7 @@ returns : tie.Need-returns
 returns c =
     let o = c .before .before in
     let a = o .before .before .args in
-    refuse _ (a .self) (c .kept .ensures) (acceptReply-shut (a .self) _ (a .peer) (a .slot) (a .ballot) _ (o .from-peer .ensures) (c .before .if1 .taken))
+    refuse _ (a .self) (c .kept .ensures) (acceptReply-shut (a .self) _ (a .peer) (a .slot) (a .ballot) _ (o .from-peer .ensures) (c .before .if1 .taken)) (ne-eqb _ 0 (c .before .if1 .taken))
 
 kept-requires-2 : tie.Need-kept-requires-2
 kept-requires-2 c κs = search needs
@@ -42,8 +43,9 @@ returns-2 : tie.Need-returns-2
 returns-2 c =
     let e = c .before .before .before .before in
     let a = e .before .before .before .args in
-    refuse 0 (a .self) (c .kept2 .ensures)
+    keep 0 (a .self) (c .kept2 .ensures)
     (acceptReply-below (a .self) _ (a .peer) (a .slot) (a .ballot) _ (e .before .from-peer .ensures) (e .if1 .left) (c .before .if2 .taken))
+    (facts e .sum)
 
 kept-requires-3 : tie.Need-kept-requires-3
 kept-requires-3 c κs = search needs
@@ -53,8 +55,9 @@ returns-3 c =
     let e2 = c .before .before .before in
     let e = e2 .before .before .before in
     let a = e .before .before .before .args in
-    refuse 0 (a .self) (c .kept3 .ensures)
+    keep 0 (a .self) (c .kept3 .ensures)
     (acceptReply-other (a .self) _ (a .peer) (a .slot) (a .ballot) _ (e .before .from-peer .ensures) (e .if1 .left) (e2 .if2 .left) (c .before .if3 .taken))
+    (facts e .sum)
 
 add-end : tie.Need-add-end
 add-end c =
@@ -71,7 +74,7 @@ returns-4 c =
     let e = e2 .before .before .before in
     let a = e .before .before .before .args in
     refuse 4 (a .self) (c .kept4 .ensures)
-    (acceptReply-past (a .self) _ (a .peer) (a .slot) (a .ballot) _ (e .before .from-peer .ensures) (e .if1 .left) (e2 .if2 .left) (e3 .if3 .left) (c .before .if4 .taken))
+    (acceptReply-past (a .self) _ (a .peer) (a .slot) (a .ballot) _ (e .before .from-peer .ensures) (e .if1 .left) (e2 .if2 .left) (e3 .if3 .left) (c .before .if4 .taken)) refl
 
 mul-s : tie.Need-mul-s
 mul-s c =
@@ -86,10 +89,13 @@ decide-accept-reply-requires c κs = search needs
 
 settle-requires : tie.Need-settle-requires
 settle-requires c κs =
-    let e4 = c .before .before .before .before in
-    let f = facts (e4 .before .before .before .before .before .before .before .before) in
-    let h = inside e4 in
-    omega arith
+    let d = c .before in
+    let e4 = d .before .before .before in
+    let e2 = e4 .before .before .before .before .before in
+    let e = e2 .before .before .before in
+    let a = e .before .before .before .args in
+    let f = facts e in
+    acceptReply-fits (a .self) (a .slot - a .self .sc .start) (a .peer) (a .slot) (a .ballot) _ f (omega (arith, e4 .if4 .left, e2 .if2 .left)) (omega (arith, e2 .if2 .left)) (d .decide-accept-reply .ensures)
 
 same-length : tie.Need-same-length
 same-length c = search needs

@@ -1,4 +1,4 @@
-use Rattle.replica.specs.CompletionLaws.{accepted-refused, accepted-bars, accepted-moved}
+use Rattle.replica.specs.CompletionLaws.{accepted-settles, accepted-refused, accepted-bars, accepted-moved}
 use borrow.Author.Needs.{needs}
 use Rattle.replica.proofs.Replica.accepted_done.Statement.{statement}
 use Rattle.replica.proofs.Replica.accepted_done.Tie as tie
@@ -13,7 +13,10 @@ decide-accepted-requires : tie.Need-decide-accepted-requires
 decide-accepted-requires c κs = search needs
 
 settle-requires : tie.Need-settle-requires
-settle-requires c κs = search needs
+settle-requires c κs =
+    let d = c .before in
+    let b = d .before .before .before .before .before in
+    accepted-settles (b .args .self) (b .args .i) (b .args .slot) _ _ (b .pre) (d .decide-accepted .ensures)
 
 same-length : tie.Need-same-length
 same-length c = search needs

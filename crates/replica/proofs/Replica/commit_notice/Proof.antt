@@ -1,9 +1,10 @@
-use mathlib.Core.Path.{sym, _∙_}
+use borrow.Author.Tests.{ne-eqb}
+use mathlib.Core.Path.{refl, sym, _∙_}
 use native.Mathlib.Omega.{arith}
 use lib.ListN.{length}
 use denote.Ref.{now}
 use Rattle.replica.specs.AdmitLaws.{Ready, owner-facts}
-use Rattle.replica.specs.ActingLaws.{refuse, told}
+use Rattle.replica.specs.ActingLaws.{refuse, keep, told}
 use Rattle.replica.specs.ElectionLaws.{notice-refused, notice-other, notice-known, notice-past, notice-marks, mark-fits}
 use borrow.Author.Needs.{needs}
 use Rattle.replica.proofs.Replica.commit_notice.Statement.{statement}
@@ -24,7 +25,7 @@ returns c =
     let f = c .before .before in
     let a = f .before .before .args in
     refuse _ (a .self) (c .kept .ensures)
-    (notice-refused (a .self) (a .ballot) (a .bar) (length (now (a .room))) (a .peer) _ (f .from-owner .ensures) (c .before .if1 .taken))
+    (notice-refused (a .self) (a .ballot) (a .bar) (length (now (a .room))) (a .peer) _ (f .from-owner .ensures) (c .before .if1 .taken)) (ne-eqb _ 0 (c .before .if1 .taken))
 
 kept-requires-2 : tie.Need-kept-requires-2
 kept-requires-2 c κs = search needs
@@ -34,8 +35,9 @@ returns-2 c =
     let e = c .before .before .before .before in
     let f = e .before in
     let a = f .before .before .args in
-    refuse 0 (a .self) (c .kept2 .ensures)
+    keep 0 (a .self) (c .kept2 .ensures)
     (notice-other (a .self) (a .ballot) (a .bar) (length (now (a .room))) (a .peer) _ (f .from-owner .ensures) (e .if1 .left) (c .before .if2 .taken))
+    (facts e .sum)
 
 kept-requires-3 : tie.Need-kept-requires-3
 kept-requires-3 c κs = search needs
@@ -46,8 +48,9 @@ returns-3 c =
     let e = d .before .before .before in
     let f = e .before in
     let a = f .before .before .args in
-    refuse 0 (a .self) (c .kept3 .ensures)
+    keep 0 (a .self) (c .kept3 .ensures)
     (notice-known (a .self) (a .ballot) (a .bar) (length (now (a .room))) (a .peer) _ (f .from-owner .ensures) (e .if1 .left) (d .if2 .left) (c .before .if3 .taken))
+    (facts e .sum)
 
 add-past : tie.Need-add-past
 add-past c = omega (arith, facts (c .before .before .before .before .before .before) .low)
@@ -63,7 +66,7 @@ returns-4 c =
     let f = e .before in
     let a = f .before .before .args in
     refuse 5 (a .self) (c .kept4 .ensures)
-    (notice-past (a .self) (a .ballot) (a .bar) (length (now (a .room))) (a .peer) _ (f .from-owner .ensures) (e .if1 .left) (d .if2 .left) (omega (arith, b .if3 .left)) (c .before .if4 .taken))
+    (notice-past (a .self) (a .ballot) (a .bar) (length (now (a .room))) (a .peer) _ (f .from-owner .ensures) (e .if1 .left) (d .if2 .left) (omega (arith, b .if3 .left)) (c .before .if4 .taken)) refl
 
 sub-from : tie.Need-sub-from
 sub-from c = let f = facts (c .before .before .before .before .before .before .before .before) in omega (arith, f .exec-low, f .exec-high)
@@ -87,7 +90,7 @@ mark-on-requires c κs =
     let b = h .before .before in
     let e = b .before .before .before .before .before in
     let a = e .before .before .before .args in
-    mark-fits (a .self) (a .ballot) (a .bar) (g .grow-to .result) _ (facts e) (omega (arith, b .if3 .left)) (omega (arith, h .if4 .left)) (s .stop .ensures)
+    mark-fits (a .self) (a .ballot) (a .bar) (g .grow-to .result) _ (facts e) (omega (arith, b .if3 .left)) (omega (arith, h .if4 .left)) (g .grow-to .ensures) (s .stop .ensures)
 
 same-length : tie.Need-same-length
 same-length c = search needs

@@ -1,5 +1,6 @@
+use mathlib.Core.Path.{refl}
 use native.Mathlib.Omega.{arith}
-use Rattle.replica.specs.ActingLaws.{refuse, told}
+use Rattle.replica.specs.ActingLaws.{keep, told}
 use Rattle.replica.specs.CompletionLaws.{committed-kept, committed-passes, pass-fits}
 use borrow.Author.Needs.{needs}
 use Rattle.replica.proofs.Replica.committed_done.Statement.{statement}
@@ -11,8 +12,9 @@ kept-requires c κs = search needs
 returns : tie.Need-returns
 returns c =
     let e = c .before in
-    let a = e .before .before .before .before .args in
-    refuse 0 (a .self) (c .kept .ensures) (committed-kept (a .self) (a .slot) (e .if1 .taken))
+    let b = e .before .before .before .before in
+    let a = b .args in
+    keep 0 (a .self) (c .kept .ensures) (committed-kept (a .self) (a .slot) (e .if1 .taken)) (b .pre .sum)
 
 sub-from : tie.Need-sub-from
 sub-from c = search needs
@@ -27,7 +29,7 @@ pass-on-requires : tie.Need-pass-on-requires
 pass-on-requires c κs =
     let s = c .before in
     let b = s .before .before .before .before .before .before .before .before in
-    pass-fits (b .args .self) _ _ _ _ (b .pre .bars) (b .pre .long) (omega (arith, b .pre)) (omega (arith, b .pre)) (s .stop .ensures)
+    pass-fits (b .args .self) _ _ _ _ (b .pre) refl (omega (arith, b .pre)) (s .stop .ensures)
 
 same-length : tie.Need-same-length
 same-length c = search needs

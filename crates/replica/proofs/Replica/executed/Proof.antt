@@ -1,25 +1,26 @@
-use mathlib.Core.Path.{_≡_}
+use borrow.Author.Tests.{ne-eqb}
+use mathlib.Core.Path.{_≡_, refl}
+use Prim.Native.Nat.{_-_}
 use mathlib.Core.Bool.{true}
 use native.Mathlib.Omega.{arith}
 use denote.Ref.{now}
 use lib.ListN.{length}
-use Rattle.base.specs.Pick.{refuted, granted}
 use Rattle.replica.specs.Fit.{ready}
-use Rattle.replica.specs.AdmitLaws.{Ready, ready-facts}
-use Rattle.replica.specs.ActingLaws.{refuse}
-use Rattle.replica.specs.AddedLaws.{executed-unready, executed-below, executed-past, executed-moves, exec-fits}
+use Rattle.replica.specs.AdmitLaws.{Ready, ready-facts, ready-by}
+use Rattle.replica.specs.ActingLaws.{refuse, keep}
+use Rattle.replica.specs.AddedLaws.{executed-sums, executed-unready, executed-below, executed-past, executed-moves, exec-fits}
 use borrow.Author.Needs.{needs}
 use Rattle.replica.proofs.Replica.executed.Statement.{statement}
 use Rattle.replica.proofs.Replica.executed.Tie as tie
 
 fine : (c : tie.Else1) → ready (c .before .before .before .args .self) (length (now (c .before .before .before .args .room))) ≡ true
-fine c = granted (c .before .is-ready .ensures) (c .if1 .left)
+fine c = ready-by _ _ (c .before .test-ready .ensures) (c .if1 .left)
 
 facts : (c : tie.Else1) → Ready (c .before .before .before .args .self) (length (now (c .before .before .before .args .room)))
 facts c = ready-facts (c .before .before .before .args .self) (length (now (c .before .before .before .args .room))) (fine c)
 
-is-ready-requires : tie.Need-is-ready-requires
-is-ready-requires c κs = search needs
+test-ready-requires : tie.Need-test-ready-requires
+test-ready-requires c κs = search needs
 
 kept-requires : tie.Need-kept-requires
 kept-requires c κs = search needs
@@ -27,7 +28,7 @@ kept-requires c κs = search needs
 returns : tie.Need-returns
 returns c =
     let a = c .before .before .before .before .args in
-    refuse 1 (a .self) (c .kept .ensures) (executed-unready (a .self) _ (a .slot) (refuted (c .before .before .is-ready .ensures) (c .before .if1 .taken)))
+    refuse _ (a .self) (c .kept .ensures) (executed-unready (a .self) _ (a .slot) _ (c .before .before .test-ready .ensures) (c .before .if1 .taken)) (ne-eqb _ 0 (c .before .if1 .taken))
 
 kept-requires-2 : tie.Need-kept-requires-2
 kept-requires-2 c κs = search needs
@@ -36,7 +37,8 @@ returns-2 : tie.Need-returns-2
 returns-2 c =
     let e = c .before .before .before .before in
     let a = e .before .before .before .args in
-    refuse 0 (a .self) (c .kept2 .ensures) (executed-below (a .self) _ (a .slot) (fine e) (c .before .if2 .taken))
+    keep 0 (a .self) (c .kept2 .ensures) (executed-below (a .self) _ (a .slot) (fine e) (c .before .if2 .taken))
+    (facts e .sum)
 
 add-end : tie.Need-add-end
 add-end c = let f = facts (c .before .before .before .before .before) in omega (arith, f .low, f .within)
@@ -49,7 +51,7 @@ returns-3 c =
     let d = c .before .before .before .before in
     let e = d .before .before .before in
     let a = e .before .before .before .args in
-    refuse 4 (a .self) (c .kept3 .ensures) (executed-past (a .self) _ (a .slot) (fine e) (d .if2 .left) (c .before .if3 .taken))
+    refuse 4 (a .self) (c .kept3 .ensures) (executed-past (a .self) _ (a .slot) (fine e) (d .if2 .left) (c .before .if3 .taken)) refl
 
 mul-s : tie.Need-mul-s
 mul-s c = let f = facts (c .before .before .before .before .before .before .before) in omega (arith, f .low, f .within)
@@ -78,14 +80,15 @@ returns-4 c =
     let d = g .before .before .before in
     let e = d .before .before .before in
     let a = e .before .before .before .args in
-    refuse 0 _ (c .kept4 .ensures)
+    keep 0 _ (c .kept4 .ensures)
     (executed-moves (a .self) _ (a .slot) (fine e) (d .if2 .left) (g .if3 .left) _ _ (c .before .before .executed .ensures) (c .before .moved-exec .ensures))
+    (executed-sums {r = a .self} (a .slot - a .self .sc .start) _ _ (facts e) (c .before .before .executed .ensures) (c .before .moved-exec .ensures))
 
 pub executed-spec : {M : Type 1} → statement M
 executed-spec =
     tie.close
     (tie.spec
-    is-ready-requires
+    test-ready-requires
     kept-requires
     returns
     kept-requires-2

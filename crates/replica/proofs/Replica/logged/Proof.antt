@@ -1,11 +1,11 @@
-use mathlib.Core.Path.{_≡_}
+use borrow.Author.Tests.{ne-eqb}
+use mathlib.Core.Path.{_≡_, refl}
 use mathlib.Core.Bool.{true}
 use native.Mathlib.Omega.{arith}
 use lib.ListN.{length}
-use Rattle.base.specs.Pick.{refuted, granted}
 use Rattle.replica.specs.Fit.{ready}
-use Rattle.replica.specs.AdmitLaws.{Ready, ready-facts}
-use Rattle.replica.specs.ActingLaws.{refuse}
+use Rattle.replica.specs.AdmitLaws.{Ready, ready-facts, ready-by}
+use Rattle.replica.specs.ActingLaws.{refuse, keep}
 use Rattle.replica.specs.CompletionLaws.{logged-unready, logged-below, logged-past, logged-short, logged-fits, logged-done, logged-refused}
 use borrow.Author.Needs.{needs}
 use Rattle.replica.proofs.Replica.logged.Statement.{statement}
@@ -13,13 +13,13 @@ use Rattle.replica.proofs.Replica.logged.Tie as tie
 
 -- the record is fit, past the first test
 fine : (c : tie.Else1) → ready (c .before .before .before .args .self) (length (c .before .before .before .args .room .now)) ≡ true
-fine c = granted (c .before .is-ready .ensures) (c .if1 .left)
+fine c = ready-by _ _ (c .before .test-ready .ensures) (c .if1 .left)
 
 facts : (c : tie.Else1) → Ready (c .before .before .before .args .self) (length (c .before .before .before .args .room .now))
 facts c = ready-facts _ _ (fine c)
 
-is-ready-requires : tie.Need-is-ready-requires
-is-ready-requires c κs = search needs
+test-ready-requires : tie.Need-test-ready-requires
+test-ready-requires c κs = search needs
 
 kept-requires : tie.Need-kept-requires
 kept-requires c κs = search needs
@@ -28,7 +28,7 @@ returns : tie.Need-returns
 returns c =
     let t = c .before in
     let a = t .before .before .before .args in
-    refuse 1 (a .self) (c .kept .ensures) (logged-unready (a .self) _ (a .done) (refuted (t .before .is-ready .ensures) (t .if1 .taken)))
+    refuse _ (a .self) (c .kept .ensures) (logged-unready (a .self) _ (a .done) _ (t .before .test-ready .ensures) (t .if1 .taken)) (ne-eqb _ 0 (t .if1 .taken))
 
 kept-requires-2 : tie.Need-kept-requires-2
 kept-requires-2 c κs = search needs
@@ -38,7 +38,7 @@ returns-2 c =
     let t = c .before in
     let e = t .before .before .before .before in
     let a = e .before .before .before .args in
-    refuse 0 (a .self) (c .kept2 .ensures) (logged-below (a .self) _ (a .done) (fine e) (t .if2 .taken))
+    keep 0 (a .self) (c .kept2 .ensures) (logged-below (a .self) _ (a .done) (fine e) (t .if2 .taken)) (facts e .sum)
 
 add-end : tie.Need-add-end
 add-end c = let f = facts (c .before .before .before .before .before) in omega arith
@@ -52,7 +52,7 @@ returns-3 c =
     let g = t .before .before .before in
     let e = g .before .before .before .before in
     let a = e .before .before .before .args in
-    refuse 4 (a .self) (c .kept3 .ensures) (logged-past (a .self) _ (a .done) (fine e) (g .if2 .left) (t .if3 .taken))
+    refuse 4 (a .self) (c .kept3 .ensures) (logged-past (a .self) _ (a .done) (fine e) (g .if2 .left) (t .if3 .taken)) refl
 
 kept-requires-4 : tie.Need-kept-requires-4
 kept-requires-4 c κs = search needs
@@ -64,7 +64,7 @@ returns-4 c =
     let g = k .before .before .before in
     let e = g .before .before .before .before in
     let a = e .before .before .before .args in
-    refuse 6 (a .self) (c .kept4 .ensures) (logged-short (a .self) _ (a .done) (fine e) (g .if2 .left) (k .if3 .left) (t .if4 .taken))
+    refuse 6 (a .self) (c .kept4 .ensures) (logged-short (a .self) _ (a .done) (fine e) (g .if2 .left) (k .if3 .left) (t .if4 .taken)) refl
 
 logged-on-requires : tie.Need-logged-on-requires
 logged-on-requires c κs =
@@ -120,7 +120,7 @@ pub logged-spec : {M : Type 1} → statement M
 logged-spec =
     tie.close
     (tie.spec
-    is-ready-requires
+    test-ready-requires
     kept-requires
     returns
     kept-requires-2

@@ -1,4 +1,5 @@
-use mathlib.Core.Path.{_≡_, ap}
+use borrow.Author.Tests.{ne-eqb}
+use mathlib.Core.Path.{_≡_, refl, ap}
 use mathlib.Core.Bool.{true}
 use native.Mathlib.Omega.{arith}
 use denote.Ref.{now}
@@ -7,16 +8,16 @@ use Rattle.base.specs.Pick.{refuted, granted}
 use Rattle.replica.specs.Fit.{ready}
 use Rattle.batch.specs.declared.Made.{Made}
 use Rattle.batch.specs.Batches.{isBatch}
-use Rattle.replica.specs.AdmitLaws.{Ready, ready-facts}
+use Rattle.replica.specs.AdmitLaws.{Ready, ready-facts, ready-by}
 use Rattle.replica.specs.ActingLaws.{refuse, told}
 use Rattle.replica.specs.MessageLaws.{batch-none, batch-some}
-use Rattle.replica.specs.AddedLaws.{offer-unready, offer-none, offer-denied, offer-full, offer-settles}
+use Rattle.replica.specs.AddedLaws.{offer-fits, offer-unready, offer-none, offer-denied, offer-full, offer-settles}
 use borrow.Author.Needs.{needs}
 use Rattle.replica.proofs.Replica.offer.Statement.{statement}
 use Rattle.replica.proofs.Replica.offer.Tie as tie
 
 fine : (c : tie.Else1) → ready (c .before .before .before .args .self) (length (now (c .before .before .before .args .room))) ≡ true
-fine c = granted (c .before .is-ready .ensures) (c .if1 .left)
+fine c = ready-by _ _ (c .before .test-ready .ensures) (c .if1 .left)
 
 batched : (c : tie.Else2) → isBatch (c .before .before .before .before .before .before .before .args .batch .id) (c .before .before .before .before .before .before .before .args .batch .count) ≡ true
 batched c = batch-some (c .before .before .before .before .before .before .before .args .batch) _ (c .before .before .make .ensures) (c .if2 .left)
@@ -24,8 +25,8 @@ batched c = batch-some (c .before .before .before .before .before .before .befor
 facts : (c : tie.Else1) → Ready (c .before .before .before .args .self) (length (now (c .before .before .before .args .room)))
 facts c = ready-facts (c .before .before .before .args .self) (length (now (c .before .before .before .args .room))) (fine c)
 
-is-ready-requires : tie.Need-is-ready-requires
-is-ready-requires c κs = search needs
+test-ready-requires : tie.Need-test-ready-requires
+test-ready-requires c κs = search needs
 
 kept-requires : tie.Need-kept-requires
 kept-requires c κs = search needs
@@ -33,7 +34,7 @@ kept-requires c κs = search needs
 returns : tie.Need-returns
 returns c =
     let a = c .before .before .before .before .args in
-    refuse 1 (a .self) (c .kept .ensures) (offer-unready (a .self) _ (a .batch) (refuted (c .before .before .is-ready .ensures) (c .before .if1 .taken)))
+    refuse _ (a .self) (c .kept .ensures) (offer-unready (a .self) _ (a .batch) _ (c .before .before .test-ready .ensures) (c .before .if1 .taken)) (ne-eqb _ 0 (c .before .if1 .taken))
 
 make-requires : tie.Need-make-requires
 make-requires c κs = search needs
@@ -46,7 +47,7 @@ returns-2 c =
     let e = c .before .before .before .before .before in
     let a = e .before .before .before .args in
     refuse 10 (a .self) (c .kept2 .ensures)
-    (offer-none (a .self) _ (a .batch) (fine e) (batch-none (a .batch) _ (c .before .before .before .make .ensures) (c .before .if2 .taken)))
+    (offer-none (a .self) _ (a .batch) (fine e) (batch-none (a .batch) _ (c .before .before .before .make .ensures) (c .before .if2 .taken))) refl
 
 may-offer-requires : tie.Need-may-offer-requires
 may-offer-requires c κs = search needs
@@ -60,7 +61,7 @@ returns-3 c =
     let e = d .before .before .before .before in
     let a = e .before .before .before .args in
     refuse 9 (a .self) (c .kept3 .ensures)
-    (offer-denied (a .self) _ (a .batch) (fine e) (batched d) (refuted (c .before .before .may-offer .ensures) (c .before .if3 .taken)))
+    (offer-denied (a .self) _ (a .batch) (fine e) (batched d) (refuted (c .before .before .may-offer .ensures) (c .before .if3 .taken))) refl
 
 kept-requires-4 : tie.Need-kept-requires-4
 kept-requires-4 c κs = search needs
@@ -72,7 +73,7 @@ returns-4 c =
     let e = d .before .before .before .before in
     let a = e .before .before .before .args in
     refuse 5 (a .self) (c .kept4 .ensures)
-    (offer-full (a .self) _ (a .batch) (fine e) (batched d) (granted (g .before .may-offer .ensures) (g .if3 .left)) (c .before .if4 .taken))
+    (offer-full (a .self) _ (a .batch) (fine e) (batched d) (granted (g .before .may-offer .ensures) (g .if3 .left)) (c .before .if4 .taken)) refl
 
 add-slot : tie.Need-add-slot
 add-slot c = let f = facts (c .before .before .before .before .before .before .before .before .before .before) in omega (arith, f .low, f .within)
@@ -87,7 +88,11 @@ decide-offer-requires : tie.Need-decide-offer-requires
 decide-offer-requires c κs = search needs
 
 settle-requires : tie.Need-settle-requires
-settle-requires c κs = record { low = c .before .before .before .before .before .if4 .left; long = facts (c .before .before .before .before .before .before .before .before .before .before .before .before .before .before) .long }
+settle-requires c κs =
+    let h = c .before .before .before .before .before in
+    let e = h .before .before .before .before .before .before .before .before .before in
+    let a = e .before .before .before .args in
+    offer-fits (a .self) _ _ _ (facts e) (h .if4 .left) (c .before .before .before .grow-to .ensures) refl (c .before .decide-offer .ensures)
 
 same-length : tie.Need-same-length
 same-length c = search needs
@@ -108,7 +113,7 @@ pub offer-spec : {M : Type 1} → statement M
 offer-spec =
     tie.close
     (tie.spec
-    is-ready-requires
+    test-ready-requires
     kept-requires
     returns
     make-requires

@@ -30,7 +30,7 @@ returns c =
     let p = n .before .before .before .before in
     let s = p .before .before .before .before .before .before .before in
     let a = s .args in
-    passed-told (a .self) (a .from) (a .stop) _ _ _ _ _ _ _ _ refl refl (swept-in (p .pass-range .ensures) (omega (arith, s .pre))) (n .put-notice .ensures) (c .with-bars .ensures)
+    passed-told (a .self) (a .from) (a .stop) _ _ _ _ _ _ _ _ (s .pre) refl refl (swept-in (p .pass-range .ensures) (omega (arith, s .pre))) (n .put-notice .ensures) (c .with-bars .ensures)
 
 pub pass-on-spec : {M : Type 1} → statement M
 pass-on-spec =

@@ -1,11 +1,12 @@
-use mathlib.Core.Path.{sym, _∙_}
-use Prim.Native.Nat.{_+_, _-_}
+use borrow.Author.Tests.{ne-eqb}
+use mathlib.Core.Path.{refl, sym, _∙_}
+use Prim.Native.Nat.{_-_}
 use native.Mathlib.Omega.{arith}
 use lib.ListN.{length}
 use denote.Ref.{now}
 use Rattle.replica.specs.AdmitLaws.{Ready, owner-facts}
-use Rattle.replica.specs.ActingLaws.{refuse, told}
-use Rattle.replica.specs.MessageLaws.{grown-fits, prepare-shut, prepare-below, prepare-old, prepare-past, prepare-goes}
+use Rattle.replica.specs.ActingLaws.{refuse, keep, told}
+use Rattle.replica.specs.MessageLaws.{prepare-fits, prepare-shut, prepare-below, prepare-old, prepare-past, prepare-goes}
 use borrow.Author.Needs.{needs}
 use Rattle.replica.proofs.Replica.prepare.Statement.{statement}
 use Rattle.replica.proofs.Replica.prepare.Tie as tie
@@ -25,7 +26,7 @@ returns : tie.Need-returns
 returns c =
     let o = c .before .before in
     let a = o .before .before .args in
-    refuse _ (a .self) (c .kept .ensures) (prepare-shut (a .self) _ (a .peer) (a .trigger) (a .ballot) _ (o .from-owner .ensures) (c .before .if1 .taken))
+    refuse _ (a .self) (c .kept .ensures) (prepare-shut (a .self) _ (a .peer) (a .trigger) (a .ballot) _ (o .from-owner .ensures) (c .before .if1 .taken)) (ne-eqb _ 0 (c .before .if1 .taken))
 
 kept-requires-2 : tie.Need-kept-requires-2
 kept-requires-2 c κs = search needs
@@ -34,8 +35,9 @@ returns-2 : tie.Need-returns-2
 returns-2 c =
     let e = c .before .before .before .before in
     let a = e .before .before .before .args in
-    refuse 0 (a .self) (c .kept2 .ensures)
+    keep 0 (a .self) (c .kept2 .ensures)
     (prepare-below (a .self) _ (a .peer) (a .trigger) (a .ballot) _ (e .before .from-owner .ensures) (e .if1 .left) (c .before .if2 .taken))
+    (facts e .sum)
 
 kept-requires-3 : tie.Need-kept-requires-3
 kept-requires-3 c κs = search needs
@@ -45,8 +47,9 @@ returns-3 c =
     let e2 = c .before .before .before in
     let e = e2 .before .before .before in
     let a = e .before .before .before .args in
-    refuse 0 (a .self) (c .kept3 .ensures)
+    keep 0 (a .self) (c .kept3 .ensures)
     (prepare-old (a .self) _ (a .peer) (a .trigger) (a .ballot) _ (e .before .from-owner .ensures) (e .if1 .left) (e2 .if2 .left) (c .before .if3 .taken))
+    (facts e .sum)
 
 add-if4 : tie.Need-add-if4
 add-if4 c =
@@ -63,7 +66,7 @@ returns-4 c =
     let e = e2 .before .before .before in
     let a = e .before .before .before .args in
     refuse 5 (a .self) (c .kept4 .ensures)
-    (prepare-past (a .self) _ (a .peer) (a .trigger) (a .ballot) _ (e .before .from-owner .ensures) (e .if1 .left) (e2 .if2 .left) (e3 .if3 .left) (c .before .if4 .taken))
+    (prepare-past (a .self) _ (a .peer) (a .trigger) (a .ballot) _ (e .before .from-owner .ensures) (e .if1 .left) (e2 .if2 .left) (e3 .if3 .left) (c .before .if4 .taken)) refl
 
 add-grow-to : tie.Need-add-grow-to
 add-grow-to c = search needs
@@ -76,9 +79,7 @@ prepare-on-requires c κs =
     let e4 = c .before .before .before .before in
     let e = e4 .before .before .before .before .before .before .before in
     let a = e .before .before .before .args in
-    let f = facts e in
-    let g = grown-fits (a .self .window) (a .trigger - a .self .sc .start + 1) (c .before .grow-to .ensures) (f .within) (omega arith) in
-    omega arith
+    prepare-fits (a .self) (a .trigger - a .self .sc .start) _ (facts e) (c .before .grow-to .ensures) (omega arith)
 
 same-length : tie.Need-same-length
 same-length c = search needs

@@ -1,4 +1,4 @@
-use mathlib.Core.Path.{_≡_, _∙_, ap}
+use mathlib.Core.Path.{_≡_, refl, _∙_, ap}
 use Prim.Native.Nat.{_+_, _≤_, _<_}
 use native.Mathlib.Omega.{arith}
 use Rattle.base.specs.Pick.{larger}
@@ -44,7 +44,7 @@ returns c =
     let a = l .before .before .before .args in
     let t = top l in
     refuse 6 (a .self) (c .kept .ensures)
-    (prepare-above (a .self) (a .w) (a .from) (a .peer) (a .ballot) _ (covered l) _ (c .before .before .any-above .ensures ∙ above-in (a .w) (a .from) (l .larger-of .result + 1) (a .ballot) (omega (arith, t))) (c .before .if1 .taken))
+    (prepare-above (a .self) (a .w) (a .from) (a .peer) (a .ballot) _ (covered l) _ (c .before .before .any-above .ensures ∙ above-in (a .w) (a .from) (l .larger-of .result + 1) (a .ballot) (omega (arith, t))) (c .before .if1 .taken)) refl
 
 add-trigger : tie.Need-add-trigger
 add-trigger c = search needs
@@ -63,21 +63,35 @@ prepare-range-requires c κs = search needs
 followed-requires : tie.Need-followed-requires
 followed-requires c κs = search needs
 
+sub-bar : tie.Need-sub-bar
+sub-bar c =
+    let s = c .before .before .before .before .before in
+    let o = s .before .before .before .before .before .before .before .before .before in
+    omega (arith, o .before .before .before .before .before .pre .commit)
+
+count-at-requires : tie.Need-count-at-requires
+count-at-requires c κs = search needs
+
+prepared-from-requires : tie.Need-prepared-from-requires
+prepared-from-requires c κs = search needs
+
 same-length : tie.Need-same-length
 same-length c = search needs
 
 returns-2 : tie.Need-returns-2
 returns-2 c =
-    let s = c .before .before .before .before in
+    let n = c .before .before in
+    let f = n .before .before in
+    let s = f .before .before .before .before in
     let k = s .before .before .before .before in
     let o = k .before .before .before .before .before in
     let l = o .before .before in
     let b = l .before .before .before in
     let a = b .args in
     let t = top l in
-    prepare-told (a .self) (a .w) (a .from) (a .peer) (a .ballot) _ (covered l) _ (o .before .any-above .ensures ∙ above-in (a .w) (a .from) (l .larger-of .result + 1) (a .ballot) (omega (arith, t))) (o .if1 .left) (k .put-down .ensures)
+    prepare-told (a .self) (a .w) (a .from) (a .peer) (a .ballot) _ (covered l) _ (o .before .any-above .ensures ∙ above-in (a .w) (a .from) (l .larger-of .result + 1) (a .ballot) (omega (arith, t))) (b .pre) (o .if1 .left) (k .put-down .ensures)
     (swept-in (s .prepare-range .ensures) (omega (arith, t, b .pre, k .put-down .ensures .few, k .put-down .kept .0)))
-    (c .followed .ensures)
+    (f .followed .ensures) (n .count-at .ensures) (c .prepared-from .ensures)
 
 pub prepare-on-spec : {M : Type 1} → statement M
 prepare-on-spec =
@@ -94,5 +108,8 @@ prepare-on-spec =
     put-down-requires
     prepare-range-requires
     followed-requires
+    sub-bar
+    count-at-requires
+    prepared-from-requires
     same-length
     returns-2)

@@ -1,9 +1,10 @@
-use mathlib.Core.Path.{_≡_, sym, _∙_}
+use borrow.Author.Tests.{ne-eqb}
+use mathlib.Core.Path.{_≡_, refl, sym, _∙_}
 use lib.ListN.{length}
 use denote.Ref.{now}
 use Rattle.replica.specs.Messages.{prepareReplyStep}
-use Rattle.replica.specs.AdmitLaws.{gate-shut, gate-open}
-use Rattle.replica.specs.ActingLaws.{refuse, told}
+use Rattle.replica.specs.AdmitLaws.{gate-shut, gate-open, peer-facts}
+use Rattle.replica.specs.ActingLaws.{refuse, keep, told}
 use Rattle.replica.specs.ReplyLaws.{replyTested, reply-gate, reply-bad, reply-below, reply-goes, reply-fits}
 use borrow.Author.Needs.{needs}
 use Rattle.replica.proofs.Replica.prepare_reply.Statement.{statement}
@@ -27,7 +28,7 @@ returns c =
     let f = c .before .before in
     let a = f .before .before .args in
     refuse _ (a .self) (c .kept .ensures)
-    (gate-shut _ _ (a .self) _ (reply-gate (a .self) (length (now (a .room))) (a .peer) (a .m)) (f .from-peer .ensures) (c .before .if1 .taken))
+    (gate-shut _ _ (a .self) _ (reply-gate (a .self) (length (now (a .room))) (a .peer) (a .m)) (f .from-peer .ensures) (c .before .if1 .taken)) (ne-eqb _ 0 (c .before .if1 .taken))
 
 make-requires : tie.Need-make-requires
 make-requires c κs = search needs
@@ -44,7 +45,7 @@ returns-2 c =
     let e = v .before .before .before .before .before in
     let a = e .before .before .before .args in
     refuse 10 (a .self) (c .kept2 .ensures)
-    (opened e ∙ reply-bad (a .self) (length (now (a .room))) (a .peer) (a .m) (v .before .make .ensures) (v .bad-vote .ensures) (c .before .if2 .taken))
+    (opened e ∙ reply-bad (a .self) (length (now (a .room))) (a .peer) (a .m) (v .before .make .ensures) (v .bad-vote .ensures) (c .before .if2 .taken)) refl
 
 kept-requires-3 : tie.Need-kept-requires-3
 kept-requires-3 c κs = search needs
@@ -55,8 +56,9 @@ returns-3 c =
     let v = g .before in
     let e = v .before .before .before .before .before in
     let a = e .before .before .before .args in
-    refuse 0 (a .self) (c .kept3 .ensures)
+    keep 0 (a .self) (c .kept3 .ensures)
     (opened e ∙ reply-below (a .self) (length (now (a .room))) (a .peer) (a .m) (v .before .make .ensures) (v .bad-vote .ensures) (g .if2 .left) (c .before .if3 .taken))
+    (peer-facts (a .self) _ (a .peer) (sym (e .before .from-peer .ensures) ∙ e .if1 .left) .facts .sum)
 
 with-voted-requires : tie.Need-with-voted-requires
 with-voted-requires c κs = search needs

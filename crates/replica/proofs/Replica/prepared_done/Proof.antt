@@ -1,7 +1,7 @@
 use borrow.Author.Tests.{not-true, not-false}
 use Rattle.window.specs.Window.{slotAt}
-use Rattle.replica.specs.ActingLaws.{refuse, told}
-use Rattle.replica.specs.CompletionLaws.{prepared-follows, prepared-unbooked, prepared-past, prepared-replies, own-fits}
+use Rattle.replica.specs.ActingLaws.{keep, told}
+use Rattle.replica.specs.CompletionLaws.{prepared-follows, prepared-unbooked, prepared-past, prepared-replies, own-fits, promised-settles}
 use borrow.Author.Needs.{needs}
 use Rattle.replica.proofs.Replica.prepared_done.Statement.{statement}
 use Rattle.replica.proofs.Replica.prepared_done.Tie as tie
@@ -16,7 +16,10 @@ decide-promised-requires : tie.Need-decide-promised-requires
 decide-promised-requires c κs = search needs
 
 settle-requires : tie.Need-settle-requires
-settle-requires c κs = search needs
+settle-requires c κs =
+    let d = c .before in
+    let b = d .before .before .before .before .before .before .before in
+    promised-settles (b .args .self) (b .args .i) (b .args .slot) _ _ (b .pre) (d .decide-promised .ensures)
 
 same-length : tie.Need-same-length
 same-length c = search needs
@@ -36,8 +39,10 @@ returns-2 : tie.Need-returns-2
 returns-2 c =
     let f = c .before in
     let e = f .before .before in
-    let a = e .before .before .before .before .before .before .args in
-    refuse 0 (a .self) (c .kept .ensures) (prepared-unbooked (a .self) (a .i) (a .slot) _ (e .if1 .left) (not-true _ (f .if2 .taken)))
+    let b = e .before .before .before .before .before .before in
+    let a = b .args in
+    keep 0 (a .self) (c .kept .ensures) (prepared-unbooked (a .self) (a .i) (a .slot) _ (e .if1 .left) (not-true _ (f .if2 .taken)))
+    (b .pre .sum)
 
 kept-requires-2 : tie.Need-kept-requires-2
 kept-requires-2 c κs = search needs
@@ -46,8 +51,10 @@ returns-3 : tie.Need-returns-3
 returns-3 c =
     let g = c .before in
     let e = g .before .before .before .before in
-    let a = e .before .before .before .before .before .before .args in
-    refuse 0 (a .self) (c .kept2 .ensures) (prepared-past (a .self) (a .i) (a .slot) _ (e .if1 .left) (g .if3 .taken))
+    let b = e .before .before .before .before .before .before in
+    let a = b .args in
+    keep 0 (a .self) (c .kept2 .ensures) (prepared-past (a .self) (a .i) (a .slot) _ (e .if1 .left) (g .if3 .taken))
+    (b .pre .sum)
 
 own-reply-requires : tie.Need-own-reply-requires
 own-reply-requires c κs = search needs

@@ -1,9 +1,10 @@
-use mathlib.Core.Path.{sym, _∙_}
+use borrow.Author.Tests.{ne-eqb}
+use mathlib.Core.Path.{refl, sym, _∙_}
 use native.Mathlib.Omega.{arith}
 use denote.Ref.{now}
 use lib.ListN.{length}
 use Rattle.replica.specs.AdmitLaws.{FromMember, member-facts}
-use Rattle.replica.specs.ActingLaws.{refuse, told}
+use Rattle.replica.specs.ActingLaws.{refuse, keep, told}
 use Rattle.replica.specs.ReadCallLaws.{reply-shut, reply-long, reply-unknown, reply-known, answers-few}
 use borrow.Author.Needs.{needs}
 use Rattle.replica.proofs.Replica.read_reply.Statement.{statement}
@@ -21,7 +22,7 @@ kept-requires c κs = search needs
 returns : tie.Need-returns
 returns c =
     let a = c .before .before .before .before .args in
-    refuse _ (a .self) (c .kept .ensures) (reply-shut (a .self) _ (a .peer) (a .id) (a .from-leader) (a .reply) _ (c .before .before .from-member .ensures) (c .before .if1 .taken))
+    refuse _ (a .self) (c .kept .ensures) (reply-shut (a .self) _ (a .peer) (a .id) (a .from-leader) (a .reply) _ (c .before .before .from-member .ensures) (c .before .if1 .taken)) (ne-eqb _ 0 (c .before .if1 .taken))
 
 kept-requires-2 : tie.Need-kept-requires-2
 kept-requires-2 c κs = search needs
@@ -30,7 +31,7 @@ returns-2 : tie.Need-returns-2
 returns-2 c =
     let e = c .before .before .before in
     let a = e .before .before .before .args in
-    refuse 10 (a .self) (c .kept2 .ensures) (reply-long (a .self) _ (a .peer) (a .id) (a .from-leader) (a .reply) _ (e .before .from-member .ensures) (e .if1 .left) (c .before .if2 .taken))
+    refuse 10 (a .self) (c .kept2 .ensures) (reply-long (a .self) _ (a .peer) (a .id) (a .from-leader) (a .reply) _ (e .before .from-member .ensures) (e .if1 .left) (c .before .if2 .taken)) refl
 
 find-requires : tie.Need-find-requires
 find-requires c κs = search needs
@@ -43,8 +44,9 @@ returns-3 c =
     let d = c .before .before .before .before in
     let e = d .before .before in
     let a = e .before .before .before .args in
-    refuse 0 (a .self) (c .kept3 .ensures)
+    keep 0 (a .self) (c .kept3 .ensures)
     (reply-unknown (a .self) _ (a .peer) (a .id) (a .from-leader) (a .reply) _ (e .before .from-member .ensures) (e .if1 .left) (d .if2 .left) _ (c .before .before .find .ensures) (c .before .if3 .taken))
+    (facts e .facts .sum)
 
 mul-read : tie.Need-mul-read
 mul-read c = let f = facts (c .before .before .before .before .before) in omega (arith, f .facts .reads-few, c .if3 .left)
@@ -66,6 +68,7 @@ replied-requires c κs =
     record {
       few = answers-few (a .self) _ _ _ _ _ _ (f .facts .reads-fit) (c .before .before .before .before .before .if3 .left) (c .before .reply-to .ensures);
       long = f .facts .long;
+      sum = f .facts .sum;
     }
 
 same-length : tie.Need-same-length

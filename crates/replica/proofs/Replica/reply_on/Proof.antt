@@ -1,4 +1,4 @@
-use mathlib.Core.Path.{_≡_}
+use mathlib.Core.Path.{_≡_, refl}
 use mathlib.Core.Bool.{true}
 use native.Mathlib.Omega.{arith}
 use borrow.Author.Tests.{not-true, not-false}
@@ -6,8 +6,8 @@ use Rattle.base.specs.Pick.{refuted, granted}
 use Rattle.decide.specs.Scalars.{leads}
 use Rattle.decide.specs.ReplyWays.{InLog, range-facts}
 use Rattle.replica.specs.Messages.{inRange}
-use Rattle.replica.specs.ActingLaws.{refuse, told}
-use Rattle.replica.specs.ReplyLaws.{on-other, on-follower, on-outside, on-bookless, on-past, on-at}
+use Rattle.replica.specs.ActingLaws.{refuse, keep, told}
+use Rattle.replica.specs.ReplyLaws.{places-fit, on-other, on-follower, on-outside, on-bookless, on-past, on-at}
 use borrow.Author.Needs.{needs}
 use Rattle.replica.proofs.Replica.reply_on.Statement.{statement}
 use Rattle.replica.proofs.Replica.reply_on.Tie as tie
@@ -34,8 +34,9 @@ kept-requires c κs = search needs
 
 returns : tie.Need-returns
 returns c =
-    let a = c .before .before .before .before .before .before .args in
-    refuse 0 (a .self) (c .kept .ensures) (on-other (a .self) (a .peer) (a .m) (c .before .if1 .taken))
+    let b = c .before .before .before .before .before .before in
+    let a = b .args in
+    keep 0 (a .self) (c .kept .ensures) (on-other (a .self) (a .peer) (a .m) (c .before .if1 .taken)) (b .pre .sum)
 
 leads-requires : tie.Need-leads-requires
 leads-requires c κs = search needs
@@ -48,7 +49,7 @@ returns-2 c =
     let l = c .before .before in
     let e = l .before in
     let a = e .before .before .before .before .before .args in
-    refuse 4 (a .self) (c .kept2 .ensures) (on-follower (a .self) (a .peer) (a .m) (e .if1 .left) (refuted (l .leads .ensures) (c .before .if2 .taken)))
+    refuse 4 (a .self) (c .kept2 .ensures) (on-follower (a .self) (a .peer) (a .m) (e .if1 .left) (refuted (l .leads .ensures) (c .before .if2 .taken))) refl
 
 is-in-log-requires : tie.Need-is-in-log-requires
 is-in-log-requires c κs = search needs
@@ -62,7 +63,7 @@ returns-3 c =
     let l = g .before .before in
     let e = l .before .before in
     let a = e .before .before .before .before .before .args in
-    refuse 6 (a .self) (c .kept3 .ensures) (on-outside (a .self) (a .peer) (a .m) (e .if1 .left) (led l) (refuted (g .is-in-log .ensures) (c .before .if3 .taken)))
+    refuse 6 (a .self) (c .kept3 .ensures) (on-outside (a .self) (a .peer) (a .m) (e .if1 .left) (led l) (refuted (g .is-in-log .ensures) (c .before .if3 .taken))) refl
 
 sub-j : tie.Need-sub-j
 sub-j c = ranged (c .before .before) .from
@@ -82,7 +83,8 @@ returns-4 c =
     let l = leading g in
     let e = l .before .before in
     let a = entry l .args in
-    refuse 0 (a .self) (c .kept4 .ensures) (on-bookless (a .self) (a .peer) (a .m) (e .if1 .left) (led l) (within g) (not-true _ (c .before .if4 .taken)))
+    keep 0 (a .self) (c .kept4 .ensures) (on-bookless (a .self) (a .peer) (a .m) (e .if1 .left) (led l) (within g) (not-true _ (c .before .if4 .taken)))
+    (entry l .pre .sum)
 
 add-end : tie.Need-add-end
 add-end c = omega (arith, entry (leading (c .before .before .before .before .before .before)) .pre)
@@ -97,15 +99,16 @@ returns-5 c =
     let l = leading g in
     let e = l .before .before in
     let a = entry l .args in
-    refuse 5 (a .self) (c .kept5 .ensures) (on-past (a .self) (a .peer) (a .m) (e .if1 .left) (led l) (within g) (not-false _ (b .if4 .left)) (c .before .if5 .taken))
+    refuse 5 (a .self) (c .kept5 .ensures) (on-past (a .self) (a .peer) (a .m) (e .if1 .left) (led l) (within g) (not-false _ (b .if4 .left)) (c .before .if5 .taken)) refl
 
 sub-i : tie.Need-sub-i
 sub-i c = omega (arith, entry (leading (c .before .before .before .before .before .before .before .before .before .before)) .pre)
 
 reply-at-requires : tie.Need-reply-at-requires
 reply-at-requires c κs =
-    let f = ranged (c .before .before .before .before .before .before .before .before .before .before .before) in
-    omega (arith, entry (leading (c .before .before .before .before .before .before .before .before .before .before .before)) .pre, c .before .before .before .if5 .left)
+    let g = c .before .before .before .before .before .before .before .before .before .before .before in
+    let s = entry (leading g) in
+    places-fit (s .args .self) _ (s .args .m) (s .pre) (ranged g) (c .before .before .before .if5 .left)
 
 same-length : tie.Need-same-length
 same-length c = search needs

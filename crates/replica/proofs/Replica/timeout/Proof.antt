@@ -1,8 +1,9 @@
-use mathlib.Core.Path.{sym, _∙_}
+use borrow.Author.Tests.{ne-eqb}
+use mathlib.Core.Path.{refl, sym, _∙_}
 use lib.ListN.{length}
 use denote.Ref.{now}
 use Rattle.replica.specs.AdmitLaws.{member-facts}
-use Rattle.replica.specs.ActingLaws.{refuse, told}
+use Rattle.replica.specs.ActingLaws.{refuse, keep, told}
 use Rattle.replica.specs.ElectionLaws.{timeout-refused, timeout-ignored, timeout-goes, step-spent, ready-fits}
 use borrow.Author.Needs.{needs}
 use Rattle.replica.proofs.Replica.timeout.Statement.{statement}
@@ -18,7 +19,7 @@ returns : tie.Need-returns
 returns c =
     let f = c .before .before in
     let a = f .before .before .args in
-    refuse _ (a .self) (c .kept .ensures) (timeout-refused (a .self) (length (now (a .room))) (a .source) _ (f .from-member .ensures) (c .before .if1 .taken))
+    refuse _ (a .self) (c .kept .ensures) (timeout-refused (a .self) (length (now (a .room))) (a .source) _ (f .from-member .ensures) (c .before .if1 .taken)) (ne-eqb _ 0 (c .before .if1 .taken))
 
 ignores-timeout-requires : tie.Need-ignores-timeout-requires
 ignores-timeout-requires c κs = search needs
@@ -32,8 +33,9 @@ returns-2 c =
     let e = i .before .before in
     let f = e .before in
     let a = f .before .before .args in
-    refuse 0 (a .self) (c .kept2 .ensures)
+    keep 0 (a .self) (c .kept2 .ensures)
     (timeout-ignored (a .self) (length (now (a .room))) (a .source) _ (f .from-member .ensures) (e .if1 .left) _ (i .ignores-timeout .ensures) (c .before .if2 .taken))
+    (member-facts (a .self) (length (now (a .room))) (a .source) (sym (f .from-member .ensures) ∙ e .if1 .left) .facts .sum)
 
 next-ballot-requires : tie.Need-next-ballot-requires
 next-ballot-requires c κs = search needs
@@ -58,7 +60,7 @@ returns-3 c =
     let a = f .before .before .args in
     refuse 8 (a .self) (c .kept3 .ensures)
     (timeout-goes (a .self) (length (now (a .room))) (a .source) _ (f .from-member .ensures) (e .if1 .left) _ (i .ignores-timeout .ensures) (l .if2 .left)
-    (n .next-ballot .ensures) (t .enum-told .given .1) ∙ step-spent (a .self))
+    (n .next-ballot .ensures) (t .enum-told .given .1) ∙ step-spent (a .self)) refl
 
 step-up-requires : tie.Need-step-up-requires
 step-up-requires c κs =
