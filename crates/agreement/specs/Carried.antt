@@ -39,7 +39,7 @@ use Rattle.replica.specs.Leadership.{timeoutStep, commitNoticeStep}
 use Rattle.replica.specs.Durability.{movedAccept, passStop, loggedOn, loggedStep}
 use Rattle.replica.specs.Quorumread.{openReadStep, answerAct, readReplyStep}
 use Rattle.replica.specs.Added.{offerStep, movedExec, executedStep}
-use Rattle.replica.specs.Step.{Call, callPrepare, callPrepareReply, callAccept, callAcceptReply, callCommitNotice, callTimeout, callLogged, callOffer, callExecuted, callOpenRead, callReadReply, step}
+use Rattle.replica.specs.Step.{Call, callPrepare, callPrepareReply, callAccept, callAcceptReply, callCommitNotice, callTimeout, callLogged, callOffer, callExecuted, callOpenRead, callReadReply, does, step}
 use Rattle.laws.specs.Leaves.{done}
 use Rattle.laws.specs.WaysMessages.{prepareWindow, prepareEnd, prepareStep-ways, acceptWindow, acceptStep-ways, acceptReplyStep-ways}
 use Rattle.laws.specs.WaysLeadership.{leadWindow, leadTrigger, leadEnd, leadFrom, timeoutStep-ways, markWindow, markFrom, markEnd, commitNoticeStep-ways}
@@ -364,15 +364,18 @@ module _ (Q : Batch → Type 0) where
         (λ f e at. passed-in empty r′ (sized-in d f))
 
     -- ── every call: a call that does not answer 0 may bring anything ──
+    does-in : (room : ℕ) (c : Call) → (step r room c .answer ≡ 0 → CallIn c) → OutcomeIn (does r room c)
+    does-in room (callPrepare peer trigger ballot) q = prepare-in empty r h room peer trigger ballot
+    does-in room (callPrepareReply peer m) q = prepareReply-in empty r h room peer m q
+    does-in room (callAccept peer slot ballot b) q = accept-in empty r h room peer slot ballot b q
+    does-in room (callAcceptReply peer slot ballot) q = acceptReply-in empty r h room peer slot ballot
+    does-in room (callCommitNotice peer ballot bar) q = notice-in empty r h room peer ballot bar
+    does-in room (callTimeout source) q = timeout-in empty r h room source
+    does-in room (callLogged d) q = logged-in room d
+    does-in room (callOffer b) q = offer-in empty r h room b q
+    does-in room (callExecuted slot) q = executed-in empty r h room slot
+    does-in room (callOpenRead id count keys) q = openRead-in empty r h room id count keys
+    does-in room (callReadReply peer id fromLeader reply) q = readReply-in empty r h room peer id fromLeader reply
+
     pub step-in : (room : ℕ) (c : Call) → (step r room c .answer ≡ 0 → CallIn c) → OutcomeIn (step r room c)
-    step-in room (callPrepare peer trigger ballot) q = prepare-in empty r h room peer trigger ballot
-    step-in room (callPrepareReply peer m) q = prepareReply-in empty r h room peer m q
-    step-in room (callAccept peer slot ballot b) q = accept-in empty r h room peer slot ballot b q
-    step-in room (callAcceptReply peer slot ballot) q = acceptReply-in empty r h room peer slot ballot
-    step-in room (callCommitNotice peer ballot bar) q = notice-in empty r h room peer ballot bar
-    step-in room (callTimeout source) q = timeout-in empty r h room source
-    step-in room (callLogged d) q = logged-in room d
-    step-in room (callOffer b) q = offer-in empty r h room b q
-    step-in room (callExecuted slot) q = executed-in empty r h room slot
-    step-in room (callOpenRead id count keys) q = openRead-in empty r h room id count keys
-    step-in room (callReadReply peer id fromLeader reply) q = readReply-in empty r h room peer id fromLeader reply
+    step-in room c q = let k = does-in room c q in record { window = k .window; acts = k .acts }

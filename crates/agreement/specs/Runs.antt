@@ -204,7 +204,7 @@ eight = record { id = 8; count = 0; keys = replicate 8 0 }
 -- "none is made up": two Accepts for one slot and ballot that nobody sent are both taken
 pub made-up : (acceptEntry 0 257 seven ∈ step (newReplica 1 3 0 0 .replica) 3456 (callAccept 0 0 257 seven) .actions) ×
     (acceptEntry 0 257 eight ∈ step (newReplica 2 3 0 0 .replica) 3456 (callAccept 0 0 257 eight) .actions)
-unfolding newReplica fit fitScalars fitSlots fitReads fitSlot filled noting settled acceptStep decideAccept makeBatch noteKey noteKeys newKeys placeIn overfullIn scan
+unfolding newReplica fit fitScalars fitSlots fitReads fitSlot filled noting settled acceptStep decideAccept makeBatch noteKey noteKeys newKeys placeIn overfullIn scan firstOpen
 made-up = (List·Memᴰ·head refl, List·Memᴰ·head refl)
 
 -- "ids distinct": two replicas with one id, here of a group of one, write entries for one slot and ballot that name two batches

@@ -13,7 +13,7 @@ use Rattle.tally.specs.ReadOrder.{readAfter}
 use Rattle.actions.specs.Actions.{Act}
 use Rattle.decide.specs.Scalars.{quorum}
 use Rattle.replica.specs.declared.Replica.{Replica}
-use Rattle.replica.specs.Fit.{fit}
+use Rattle.replica.specs.Fit.{usable}
 use Rattle.replica.specs.ReadCalls.{answerActs}
 use Rattle.replica.specs.Step.{Call, callReadReply, step}
 use Rattle.laws.specs.WaysAdded.{readPlace, readAt}
@@ -28,7 +28,7 @@ readOf r id = readAt r (readPlace r id)
 
 -- it is open, in a replica that calls lead to from a new one (`fit-stays`, `sizes-stay`, `waiting-stays`)
 pub record ReadOpen (id : ℕ) (r : Replica) : Type 0 where
-  pub fits : fit r ≡ true
+  pub fits : usable r ≡ true
   pub sized : Sized r
   pub waiting : Waiting r
   pub known : readPlace r id < r .reads .count
@@ -71,6 +71,7 @@ pub record SameInUse (a b : Replica) : Type 0 where
   pub bars : a .bars ≡ b .bars
   pub window : a .window ≡ b .window
   pub keys : a .keys ≡ b .keys
+  pub summary : a .summary ≡ b .summary
   pub count : a .reads .count ≡ b .reads .count
   pub reads : (i : ℕ) → i < a .reads .count → readAt a i ≡ readAt b i
 

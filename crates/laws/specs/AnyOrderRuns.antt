@@ -22,7 +22,7 @@ use Rattle.tally.specs.AnyOrder.{answered-agreeing}
 use Rattle.actions.specs.Actions.{flat}
 use Rattle.slots.specs.Slots.{fitSlot}
 use Rattle.decide.specs.Scalars.{quorum, fitScalars}
-use Rattle.window.specs.Window.{fitSlots}
+use Rattle.window.specs.Window.{firstOpen, fitSlots}
 use Rattle.replica.specs.declared.Replica.{Replica}
 use Rattle.replica.specs.Record.{newReplica}
 use Rattle.replica.specs.Fit.{fit}
@@ -74,12 +74,12 @@ orders =
 
 -- the read closes: the value of slot 7, that of slot 5, that of slot 3; and of the fourth key slot 9 alone is known, so retry
 pub orders-hold : T (eachOrder (endsWith (answers 0 2 9 ++ (answers 1 2 1 ++ (answers 2 2 8 ++ answers 3 1 255))) []) orders)
-unfolding newReplica fit fitScalars fitSlots fitSlot fitReads openReadStep repliedStep readReplyStep findRead openRead closeRead putRead replyTo merge scan has insert count countIn
+unfolding newReplica fit fitScalars fitSlots fitSlot fitReads openReadStep repliedStep readReplyStep findRead openRead closeRead putRead replyTo merge scan has insert count countIn firstOpen
 orders-hold = tt
 
 -- two of them, below the quorum: the read stays open and knows the same
 pub pairs-hold : T (eachOrder (endsWith [] (5 ∷ 3 ∷ 4 ∷ 2 ∷ 7 ∷ 9 ∷ 6 ∷ 2 ∷ 5 ∷ 1 ∷ 8 ∷ 1 ∷ 3 ∷ 0 ∷ 10 ∷ 1 ∷ 9 ∷ 0 ∷ [])) ((0 ∷ 1 ∷ []) ∷ (1 ∷ 0 ∷ []) ∷ (1 ∷ 1 ∷ 0 ∷ 1 ∷ []) ∷ []))
-unfolding newReplica fit fitScalars fitSlots fitSlot fitReads openReadStep repliedStep readReplyStep findRead openRead closeRead putRead replyTo merge scan has insert count countIn
+unfolding newReplica fit fitScalars fitSlots fitSlot fitReads openReadStep repliedStep readReplyStep findRead openRead closeRead putRead replyTo merge scan has insert count countIn firstOpen
 pairs-hold = tt
 
 -- what a host must still care about: runs of one read of one key that end otherwise in another order
@@ -127,7 +127,7 @@ limits =
     ∷ []
 
 pub limits-hold : T (rightRuns limits)
-unfolding limits rightRuns rightRun rightTurn newReplica fit fitScalars fitSlots fitSlot fitReads openReadStep repliedStep readReplyStep findRead openRead closeRead putRead replyTo merge scan has insert count countIn
+unfolding limits rightRuns rightRun rightTurn newReplica fit fitScalars fitSlots fitSlot fitReads openReadStep repliedStep readReplyStep findRead openRead closeRead putRead replyTo merge scan has insert count countIn firstOpen
 limits-hold = tt
 
 -- THE HYPOTHESES ARE MET, by the first of the orders: so the theorem says of another, with repetitions, what was computed above
@@ -143,7 +143,7 @@ abbrev Merges : Tally → ℕ → Type 0
 Merges held m = merge held (threeSay m) .answer ≡ 0
 
 held-merges : All (Merges (readOf askedFour 5 .tally)) firstOrder
-unfolding merge scan newReplica openReadStep openRead findRead fit fitScalars fitSlots fitReads
+unfolding merge scan newReplica openReadStep openRead findRead fit fitScalars fitSlots fitReads firstOpen
 held-merges = (refl, (refl, (refl, tt)))
 
 each-merges : All (λ (m : ℕ). All (Merges (threeSay m)) firstOrder) firstOrder
@@ -151,7 +151,7 @@ unfolding merge scan
 each-merges = ((refl, (refl, (refl, tt))), ((refl, (refl, (refl, tt))), ((refl, (refl, (refl, tt))), tt)))
 
 pub met-open : ReadOpen 5 askedFour
-unfolding newReplica fit fitScalars fitSlots fitReads openReadStep findRead openRead scan
+unfolding newReplica fit fitScalars fitSlots fitReads openReadStep findRead openRead scan firstOpen
 met-open =
     record {
       fits = refl;
@@ -161,7 +161,7 @@ met-open =
     }
 
 pub met-hears : AgreeingReplies 5 threeSay askedFour firstOrder
-unfolding newReplica fit fitScalars fitSlots fitReads openReadStep findRead openRead scan
+unfolding newReplica fit fitScalars fitSlots fitReads openReadStep findRead openRead scan firstOpen
 met-hears =
     record {
       members = λ m o. all-in (λ (x : ℕ). x < 5) {l = firstOrder} (omega arith, (omega arith, (omega arith, tt))) o;
@@ -172,7 +172,7 @@ met-hears =
     }
 
 pub met-quorum : acknowledgedWith 5 askedFour firstOrder ≤ quorum (askedFour .sc)
-unfolding newReplica fit fitScalars fitSlots fitReads openReadStep findRead openRead scan has insert count countIn
+unfolding newReplica fit fitScalars fitSlots fitReads openReadStep findRead openRead scan has insert count countIn firstOpen
 met-quorum = le-refl 3
 
 same-members : SameMembers firstOrder another
@@ -218,7 +218,7 @@ met-read =
     (from-member 3456 1 (le-refl 3456) (from-member 3456 0 (le-refl 3456) (from-member 3456 1 (le-refl 3456) no-more)))
 
 met-below : acknowledgedWith 5 askedFour two < quorum (askedFour .sc)
-unfolding newReplica fit fitScalars fitSlots fitReads openReadStep findRead openRead scan has insert count countIn
+unfolding newReplica fit fitScalars fitSlots fitReads openReadStep findRead openRead scan has insert count countIn firstOpen
 met-below = le-refl 3
 
 pub met-same-read : readOf withPrepare 5 ≡ readOf withRead 5
@@ -249,7 +249,7 @@ met-backwards : CallsBetween 5 threeSay askedFour backwards (replied 3456 5 thre
 met-backwards = from-member 3456 3 (le-refl 3456) (from-member 3456 1 (le-refl 3456) no-more)
 
 pub met-same-answers : step withOther 3456 (memberReply 5 threeSay 3) .actions ≡ step (replied 3456 5 threeSay askedFour backwards) 3456 (memberReply 5 threeSay 0) .actions
-unfolding newReplica fit fitScalars fitSlots fitReads openReadStep repliedStep readReplyStep findRead openRead putRead replyTo merge scan has insert count countIn
+unfolding newReplica fit fitScalars fitSlots fitReads openReadStep repliedStep readReplyStep findRead openRead putRead replyTo merge scan has insert count countIn firstOpen
 met-same-answers =
     same-answers 5 threeSay askedFour withOther (replied 3456 5 threeSay askedFour backwards) two backwards 3456 3 0 met-open met-hears met-below (le-refl 3) (le-refl 3)
     (record {

@@ -27,8 +27,8 @@ use Rattle.tally.specs.ReadOrder.{readAfter, Agreed, joinedBy, agreed-cases, ag
 use Rattle.decide.specs.Scalars.{isMember, quorum}
 use Rattle.replica.specs.declared.Replica.{Replica}
 use Rattle.replica.specs.Record.{Outcome}
-use Rattle.replica.specs.Fit.{fit, ready}
-use Rattle.replica.specs.AdmitLaws.{ready-last, member-some}
+use Rattle.replica.specs.Fit.{usable, ready}
+use Rattle.replica.specs.AdmitLaws.{ready-last, ready-zero, member-some}
 use Rattle.replica.specs.ReadCallLaws.{reply-known}
 use Rattle.replica.specs.Quorumread.{withReads, openReadStep, repliedStep, readReplyStep}
 use Rattle.replica.specs.Step.{Call, step}
@@ -38,7 +38,8 @@ use Rattle.laws.specs.Good.{Sized}
 use Rattle.laws.specs.OpenReads.{call-cases, other-calls, Waiting, waiting-stays}
 use Rattle.laws.specs.AnyOrder.{readOf, ReadOpen, AgreeingReplies, memberReply, Aside, CallsBetween, no-more, aside, from-member, acknowledgedWith, answeredRead, KnowsHeard, SameRead, AnsweredZero, allAnswers, AnswersHeard, SameAnswers}
 use Rattle.laws.specs.InARow.{replied-open, replied-shut, agreed-of, replies-within, acknowledged-same}
-use Rattle.laws.specs.Theorems.{fit-stays, group-stays, sizes-stay}
+use Rattle.laws.specs.Theorems.{group-stays, sizes-stay}
+use Rattle.laws.specs.Summaries.{usable-fit, usable-stays}
 
 -- ANOTHER CALL
 
@@ -47,9 +48,9 @@ abbrev Stands : Read → Replica → Type 0
 Stands d a = (i : ℕ) × (i < a .reads .count) × (readAt a i ≡ d)
 
 -- where it stands it is found
-stands-open : (id : ℕ) (a : Replica) (d : Read) → fit a ≡ true → Sized a → Waiting a → d .id ≡ id → Stands d a → ReadOpen id a × (readOf a id ≡ d)
+stands-open : (id : ℕ) (a : Replica) (d : Read) → usable a ≡ true → Sized a → Waiting a → d .id ≡ id → Stands d a → ReadOpen id a × (readOf a id ≡ d)
 stands-open id a d f s w e (i, h, at) =
-    let place : readPlace a id ≡ i = find-only (a .reads) id i (fit-facts a f .reads .count) (w .ids) h (ap (λ (x : Read). x .id) at ∙ e) in
+    let place : readPlace a id ≡ i = find-only (a .reads) id i (fit-facts a (usable-fit a f) .reads .count) (w .ids) h (ap (λ (x : Read). x .id) at ∙ e) in
     (record { fits = f; sized = s; waiting = w; known = rw place h }, ap (λ (x : ℕ). readAt a x) place ∙ at)
 
 module _ (id : ℕ) (r : Replica) (o : ReadOpen id r) where
@@ -68,7 +69,7 @@ module _ (id : ℕ) (r : Replica) (o : ReadOpen id r) where
   module _ (at : ℕ) (h : at < r .reads .count) (apart : readPlace r id ≡ at → ⊥) where
     close-stands : Stands (readOf r id) (withReads r (closeRead (r .reads) at))
     close-stands =
-        let few = fit-facts r (o .fits) .reads .count in
+        let few = fit-facts r (usable-fit r (o .fits)) .reads .count in
         let less = close-count (r .reads) at few h in
         ⊎-elim
         (λ (e : readPlace r id ≡ r .reads .count - 1).
@@ -109,7 +110,7 @@ module _ (id : ℕ) (r : Replica) (o : ReadOpen id r) where
 
   -- whatever the call, a read that stands in the table after it is open
   after-open : (n : ℕ) (c : Call) (d : Read) → d .id ≡ id → Stands d (step r n c .replica) → ReadOpen id (step r n c .replica) × (readOf (step r n c .replica) id ≡ d)
-  after-open n c d e = stands-open id (step r n c .replica) d (fit-stays r n c (o .fits)) (sizes-stay r n c (o .sized)) (waiting-stays r n c (o .sized) (o .waiting)) e
+  after-open n c d e = stands-open id (step r n c .replica) d (usable-stays r n c (o .fits)) (sizes-stay r n c (o .sized)) (waiting-stays r n c (o .sized) (o .waiting)) e
 
 -- A REPLY OF A MEMBER
 
@@ -120,12 +121,12 @@ module _ (id : ℕ) (said : ℕ → Tally) (r : Replica) (o : ReadOpen id r) (n 
       → Stands d (step r n (memberReply id said m) .replica)
   reply-leaves m l f d e =
       rw
-      (reply-known r n m id false (said m) 0 (member-some r n m (sym (ready-last r n roomy) ∙ o .fits) l) refl f (readPlace r id) refl (o .known) (quorum (r .sc))
+      (reply-known r n m id false (said m) 0 (member-some r n m (ready-zero r n (sym (ready-last r n roomy) ∙ o .fits)) l) refl f (readPlace r id) refl (o .known) (quorum (r .sc))
       (replyTo (quorum (r .sc)) m false (said m) (readOf r id)) refl refl
       ∙ e) (
         readPlace r id,
         omega (arith, o .known, put-count (r .reads) (readPlace r id) d),
-        put-here (r .reads) (readPlace r id) d (o .sized .reads) (fit-facts r (o .fits) .reads .count) (o .known),
+        put-here (r .reads) (readPlace r id) d (o .sized .reads) (fit-facts r (usable-fit r (o .fits)) .reads .count) (o .known),
       )
 
 -- THE THEOREMS
@@ -191,7 +192,7 @@ module _ (id : ℕ) (said : ℕ → Tally) (r after : Replica) (ms : List ℕ) (
       let end = knows-heard id said r after ms o earlier below calls in
       let group = calls-group id said r after ms calls in
       let last : m ∈ (ms ++ (m ∷ [])) = Memᴰ·append-right ms (List·Memᴰ·head refl) in
-      reply-known after room m id false (said m) 0 (member-some after room m (sym (ready-last after room roomy) ∙ end .0 .fits) (rw group (h .members m last))) refl
+      reply-known after room m id false (said m) 0 (member-some after room m (ready-zero after room (sym (ready-last after room roomy) ∙ end .0 .fits)) (rw group (h .members m last))) refl
       (h .few m last) (readPlace after id) refl (end .0 .known) (quorum (r .sc)) (replyTo (quorum (r .sc)) m false (said m) (answeredRead id said r ms))
       (sym (ap quorumOf group)) (ap (λ (x : Read). replyTo (quorum (r .sc)) m false (said m) x) (sym (end .1)))
 

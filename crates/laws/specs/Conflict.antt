@@ -22,6 +22,7 @@ pub record TallyOnly (r : Replica) (id : ℕ) (after : Replica) : Type 0 where
   pub bars : after .bars ≡ r .bars
   pub window : after .window ≡ r .window
   pub keys : after .keys ≡ r .keys
+  pub summary : after .summary ≡ r .summary
   pub count : after .reads .count ≡ r .reads .count
   pub others : (i : ℕ) → (i ≡ readPlace r id → ⊥) → readAt after i ≡ readAt r i
   pub read-id : readAt after (readPlace r id) .id ≡ readAt r (readPlace r id) .id
@@ -62,6 +63,7 @@ conflict-only r id reply k =
       bars = refl;
       window = refl;
       keys = refl;
+      summary = refl;
       count = put-count (r .reads) i d;
       others = put-others (r .reads) i d;
       read-id = put-each (r .reads) i d (λ (x : Read). x .id ≡ readAt r i .id) i (λ e. refl) refl;

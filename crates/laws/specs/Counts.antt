@@ -34,7 +34,7 @@ use Rattle.laws.specs.OfScalars.{Fixed, fixed-same, fixed-then, fallen-f
 use Rattle.laws.specs.OfFit.{FitNumbers, fit-facts}
 use Rattle.laws.specs.OfDecide.{reports}
 use Rattle.laws.specs.Leaves.{done, put-back}
-use Rattle.laws.specs.WaysMessages.{Keeps, Prepares, prepareWindow, prepareEnd}
+use Rattle.laws.specs.WaysMessages.{KeepsLow, Prepares, prepareWindow, prepareEnd}
 use Rattle.laws.specs.WaysReply.{replyWindow, heardWindow, countedWindow, tabledSc, replyOn-ways, reply-place}
 use Rattle.laws.specs.WaysLeadership.{Leads, leadWindow, leadFrom, markEnd, markFrom, markWindow}
 use Rattle.laws.specs.WaysDurability.{logged, withSlot, Completes, completes-silent, completes-more, completes-commit, completes-report, moved-ways, passFrom}
@@ -99,7 +99,7 @@ module _ (r : Replica) (peer : ℕ) (m : Reply) where
 
 -- a PrepareReply that acts, whatever the outcome is wrapped in
 module _ (P : Outcome → Type 0) (r : Replica) (peer : ℕ) (m : Reply) (room : r .window .len ≤ 64) where
-  pub replyOn-leaves : Keeps P r → ((after : Replica) (acts : List Act) → length acts ≤ 191 → Fixed (r .sc) (after .sc) → size (after .window) ≡ size (r .window) → P (done after acts))
+  pub replyOn-leaves : KeepsLow P r → ((after : Replica) (acts : List Act) → length acts ≤ 191 → Fixed (r .sc) (after .sc) → size (after .window) ≡ size (r .window) → P (done after acts))
       → P (replyOn r peer m)
   replyOn-leaves k on =
       let i : ℕ = place (r .sc) (m .slot) in

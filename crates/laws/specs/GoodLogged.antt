@@ -16,7 +16,7 @@ use Rattle.replica.specs.declared.Done.{Done}
 use Rattle.replica.specs.Record.{Outcome, place, number}
 use Rattle.replica.specs.Messages.{orKept}
 use Rattle.replica.specs.Durability.{movedAccept, passStop, loggedOn, loggedStep}
-use Rattle.replica.specs.Step.{Call, callPrepare, callPrepareReply, callAccept, callAcceptReply, callCommitNotice, callTimeout, callLogged, callOffer, callExecuted, callOpenRead, callReadReply, step}
+use Rattle.replica.specs.Step.{Call, callPrepare, callPrepareReply, callAccept, callAcceptReply, callCommitNotice, callTimeout, callLogged, callOffer, callExecuted, callOpenRead, callReadReply, does, step}
 use Rattle.laws.specs.Leaves.{orKept-ways}
 use Rattle.laws.specs.WaysDurability.{Logs, logged, loggedAt, Completes, completes-silent, completes-more, completes-commit, completes-report, passed, passFrom, loggedStep-ways}
 use Rattle.laws.specs.Counts.{logged-numbers, logged-fixed}
@@ -89,15 +89,20 @@ module _ (Z : Type 0) (r : Replica) (g : Good Z r) where
       (λ f e l p. g′ f) (λ f e after acts c. moved-good Z after (completed-good Z r′ (g′ f) i (d .slot) after acts (at f) c) (d .slot)) (λ f e b. passed-good Z r′ (g′ f))
 
   -- every call
+  does-good : (n : ℕ) (c : Call) → Good Z (does r n c .replica)
+  does-good n (callPrepare peer trigger ballot) = prepare-good Z r g n peer trigger ballot
+  does-good n (callPrepareReply peer m) = prepareReply-good Z r g n peer m
+  does-good n (callAccept peer slot ballot b) = accept-good Z r g n peer slot ballot b
+  does-good n (callAcceptReply peer slot ballot) = acceptReply-good Z r g n peer slot ballot
+  does-good n (callCommitNotice peer ballot bar) = commitNotice-good Z r g n peer ballot bar
+  does-good n (callTimeout source) = timeout-good Z r g n source
+  does-good n (callLogged d) = logged-good n d
+  does-good n (callOffer b) = offer-good Z r g n b
+  does-good n (callExecuted slot) = executed-good Z r g n slot
+  does-good n (callOpenRead id count keys) = openRead-good Z r g n id count keys
+  does-good n (callReadReply peer id fromLeader reply) = readReply-good Z r g n peer id fromLeader reply
+
   pub step-good : (n : ℕ) (c : Call) → Good Z (step r n c .replica)
-  step-good n (callPrepare peer trigger ballot) = prepare-good Z r g n peer trigger ballot
-  step-good n (callPrepareReply peer m) = prepareReply-good Z r g n peer m
-  step-good n (callAccept peer slot ballot b) = accept-good Z r g n peer slot ballot b
-  step-good n (callAcceptReply peer slot ballot) = acceptReply-good Z r g n peer slot ballot
-  step-good n (callCommitNotice peer ballot bar) = commitNotice-good Z r g n peer ballot bar
-  step-good n (callTimeout source) = timeout-good Z r g n source
-  step-good n (callLogged d) = logged-good n d
-  step-good n (callOffer b) = offer-good Z r g n b
-  step-good n (callExecuted slot) = executed-good Z r g n slot
-  step-good n (callOpenRead id count keys) = openRead-good Z r g n id count keys
-  step-good n (callReadReply peer id fromLeader reply) = readReply-good Z r g n peer id fromLeader reply
+  step-good n c =
+      let h = does-good n c in
+      record { numbers = h .numbers; window = h .window; keys = h .keys; reads = h .reads; bars = h .bars }

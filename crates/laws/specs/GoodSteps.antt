@@ -28,7 +28,7 @@ use Rattle.replica.specs.Added.{movedExec, offerStep, executedStep}
 use Rattle.laws.specs.OfScalars.{fixed-same, fixed-then, followed-fixed, fallen-fixed}
 use Rattle.laws.specs.OfFit.{FitNumbers}
 use Rattle.laws.specs.Leaves.{done}
-use Rattle.laws.specs.WaysMessages.{Keeps, prepareWindow, prepareEnd, prepareStep-ways, acceptWindow, acceptStep-ways, Replies, repliedSlot, acceptReplyStep-ways}
+use Rattle.laws.specs.WaysMessages.{Keeps, KeepsLow, prepareWindow, prepareEnd, prepareStep-ways, acceptWindow, acceptStep-ways, Replies, repliedSlot, acceptReplyStep-ways}
 use Rattle.laws.specs.WaysReply.{Answers, replyWindow, replySlot, adoptsVote, heardSlot, heardWindow, triggerSlot, countedWindow, tabledSc, replyOn-ways, prepareReplyStep-ways, reply-place}
 use Rattle.laws.specs.WaysLeadership.{leadWindow, leadFrom, leadTrigger, leadEnd, timeoutStep-ways, markWindow, markFrom, markEnd, commitNoticeStep-ways}
 use Rattle.laws.specs.WaysDurability.{logged, withSlot}
@@ -87,7 +87,7 @@ module _ (Z : Type 0) (r : Replica) (g : Good Z r) where
       (λ f q. with-slot-good (place (r .sc) slot) _ (good-committed Z (r .sc .group) (acknowledgedSlot peer (repliedSlot r slot)) (s f)))
 
   -- a PrepareReply that acts, whatever the outcome is wrapped in
-  pub replyOn-good : (P : Outcome → Type 0) (peer : ℕ) (m : Reply) → peer < r .sc .group → GoodBatch Z (m .vote .batch) → Keeps P r
+  pub replyOn-good : (P : Outcome → Type 0) (peer : ℕ) (m : Reply) → peer < r .sc .group → GoodBatch Z (m .vote .batch) → KeepsLow P r
       → ((after : Replica) (acts : List Act) → Good Z after → P (done after acts)) → P (replyOn r peer m)
   replyOn-good P peer m member vote k on =
       let i : ℕ = place (r .sc) (m .slot) in
@@ -120,7 +120,7 @@ module _ (Z : Type 0) (r : Replica) (g : Good Z r) where
   pub prepareReply-good : (n peer : ℕ) (m : Reply) → After (prepareReplyStep r n peer m)
   prepareReply-good n peer m =
       prepareReplyStep-ways After r n peer m (λ a h z. g)
-      (λ f. replyOn-good After peer (cleanReply m) (f .peer-is .member) (good-clean Z (m .vote .batch)) after-kept (λ after acts p. p))
+      (λ f. replyOn-good After peer (cleanReply m) (f .peer-is .member) (good-clean Z (m .vote .batch)) (λ a h. g) (λ after acts p. p))
 
   -- ── leadership ──
   pub timeout-good : (n source : ℕ) → After (timeoutStep r n source)

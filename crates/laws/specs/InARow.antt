@@ -24,15 +24,17 @@ use Rattle.tally.specs.ReadOrder.{readAfter, Agreed, joinedBy, agreed-cases, af
 use Rattle.actions.specs.Actions.{Act}
 use Rattle.decide.specs.Scalars.{quorum}
 use Rattle.replica.specs.declared.Replica.{Replica}
-use Rattle.replica.specs.Record.{Outcome}
-use Rattle.replica.specs.Fit.{fit, ready}
-use Rattle.replica.specs.AdmitLaws.{ready-last, member-some}
-use Rattle.replica.specs.Quorumread.{withReads, repliedStep, readReplyStep}
-use Rattle.replica.specs.ReadCallLaws.{replied-stays, reply-known, reply-unknown}
+use Rattle.replica.specs.Record.{Outcome, kept, summed}
+use Rattle.replica.specs.Fit.{usable, ready}
+use Rattle.replica.specs.AdmitLaws.{ready-last, ready-zero, ready-facts, member-some}
+use Rattle.replica.specs.ActingLaws.{summed-kept}
+use Rattle.replica.specs.Step.{step}
+use Rattle.replica.specs.Quorumread.{withReads, repliedStep}
+use Rattle.replica.specs.ReadCallLaws.{replied-stays, replied-summed, reply-known, reply-unknown}
 use Rattle.laws.specs.OfFit.{fit-facts}
 use Rattle.laws.specs.WaysAdded.{readPlace, closed, stayed}
 use Rattle.laws.specs.AnyOrder.{readOf, ReadOpen, AgreeingReplies, acknowledgedWith, memberReply, replied, repliedActs, repliedAnswers, SameInUse, InAnyOrder, allAnswers}
-use Rattle.laws.specs.Theorems.{fit-stays}
+use Rattle.laws.specs.Summaries.{usable-fit, usable-stays}
 
 -- ONE REPLY
 
@@ -46,7 +48,7 @@ unfolding repliedStep
 replied-shut r p d = refl
 
 same-refl : (a : Replica) → SameInUse a a
-same-refl a = record { sc = refl; bars = refl; window = refl; keys = refl; count = refl; reads = λ i h. refl }
+same-refl a = record { sc = refl; bars = refl; window = refl; keys = refl; summary = refl; count = refl; reads = λ i h. refl }
 
 same-sym : (a b : Replica) → SameInUse a b → SameInUse b a
 same-sym a b s =
@@ -55,6 +57,7 @@ same-sym a b s =
       bars = sym (s .bars);
       window = sym (s .window);
       keys = sym (s .keys);
+      summary = sym (s .summary);
       count = sym (s .count);
       reads = λ i h. sym (s .reads i (omega (arith, s .count)));
     }
@@ -66,6 +69,7 @@ same-trans a b c s t =
       bars = s .bars ∙ t .bars;
       window = s .window ∙ t .window;
       keys = s .keys ∙ t .keys;
+      summary = s .summary ∙ t .summary;
       count = s .count ∙ t .count;
       reads = λ i h. s .reads i h ∙ t .reads i (omega (arith, s .count));
     }
@@ -84,8 +88,12 @@ module _ (room id : ℕ) (said : ℕ → Tally) (r : Replica) (on : ready r room
   ignored [] members few = record { replica = refl; actions = refl; zeros = tt }
   ignored (m ∷ ms) members few =
       let rest = ignored ms (λ x o. members x (List·Memᴰ·tail o)) (λ x o. few x (List·Memᴰ·tail o)) in
-      rw (reply-unknown r room m id false (said m) 0 (member-some r room m on (members m (List·Memᴰ·head refl))) refl (few m (List·Memᴰ·head refl)) (readPlace r id) refl gone)
-      (record { replica = rest .replica; actions = rest .actions; zeros = (refl, rest .zeros) })
+      let one : step r room (memberReply id said m) ≡ kept 0 r =
+      ap summed (reply-unknown r room m id false (said m) 0 (member-some r room m (ready-zero r room on) (members m (List·Memᴰ·head refl))) refl (few m (List·Memᴰ·head refl)) (readPlace r id) refl gone)
+      ∙ summed-kept 0 r (ready-facts r room on .sum) in
+      subst
+      (λ (o : Outcome). Ignored (m ∷ ms) (replied room id said (o .replica) ms) (o .actions ++ repliedActs room id said (o .replica) ms) (o .answer ∷ repliedAnswers room id said (o .replica) ms))
+      (sym one) (record { replica = rest .replica; actions = rest .actions; zeros = (refl, rest .zeros) })
 
 -- a replica with a read open at place p, and the same with that read as d
 module _ (room id : ℕ) (said : ℕ → Tally) (r : Replica) (p : ℕ) where
@@ -103,7 +111,7 @@ module _ (room id : ℕ) (said : ℕ → Tally) (r : Replica) (p : ℕ) where
 
   -- what holds of the read and of the members yet to be heard
   record Stage (d : Read) (ms : List ℕ) : Type 0 where
-    fits : fit (with d) ≡ true
+    fits : usable (with d) ≡ true
     named : d .id ≡ id
     agreed : Agreed said d ms
     members : (m : ℕ) → m ∈ ms → m < r .sc .group
@@ -126,15 +134,17 @@ module _ (room id : ℕ) (said : ℕ → Tally) (r : Replica) (p : ℕ) where
     with-with : (d e : Read) → withReads (with d) (putRead (with d .reads) p e) ≡ with e
     with-with d e = ap (λ (rs : Reads). withReads r rs) (put-again (r .reads) p d e)
 
-    on : (a : Replica) → fit a ≡ true → ready a room ≡ true
+    on : (a : Replica) → usable a ≡ true → ready a room ≡ true
     on a f = sym (ready-last a room (base .roomy)) ∙ f
 
-    one-reply : (d : Read) (m : ℕ) → fit (with d) ≡ true → d .id ≡ id → m < r .sc .group → said m .count ≤ 8
-        → readReplyStep (with d) room m id false (said m) ≡ repliedStep (with d) p (replyTo (quorum (r .sc)) m false (said m) d)
+    one-reply : (d : Read) (m : ℕ) → usable (with d) ≡ true → d .id ≡ id → m < r .sc .group → said m .count ≤ 8
+        → step (with d) room (memberReply id said m) ≡ repliedStep (with d) p (replyTo (quorum (r .sc)) m false (said m) d)
     one-reply d m f e l q =
-        reply-known (with d) room m id false (said m) 0 (member-some (with d) room m (on (with d) f) l) refl q p (sym (found d e))
+        ap summed
+        (reply-known (with d) room m id false (said m) 0 (member-some (with d) room m (ready-zero (with d) room (on (with d) f)) l) refl q p (sym (found d e))
         (omega (arith, base .below, put-count (r .reads) p d)) (quorum (r .sc)) (replyTo (quorum (r .sc)) m false (said m) d) refl
-        (ap (λ (x : Read). replyTo (quorum (r .sc)) m false (said m) x) (sym (put-here (r .reads) p d (base .long) (base .table) (base .below))))
+        (ap (λ (x : Read). replyTo (quorum (r .sc)) m false (said m) x) (sym (put-here (r .reads) p d (base .long) (base .table) (base .below)))))
+        ∙ replied-summed (with d) p (replyTo (quorum (r .sc)) m false (said m) d) (ready-facts (with d) room (on (with d) f) .sum)
 
     -- the read has closed: what it was leaves no trace in a place that is in use
     abbrev shutAt : Read → Replica
@@ -147,6 +157,7 @@ module _ (room id : ℕ) (said : ℕ → Tally) (r : Replica) (p : ℕ) where
           bars = refl;
           window = refl;
           keys = refl;
+          summary = refl;
           count = close-put-count (r .reads) p d (base .long) (base .table) (base .below);
           reads = close-put-each (r .reads) p d (base .long) (base .table) (base .below);
         }
@@ -165,13 +176,13 @@ module _ (room id : ℕ) (said : ℕ → Tally) (r : Replica) (p : ℕ) where
     abbrev Then : Read → List ℕ → Replied → Type 0
     Then d ms o =
         let after : Outcome = repliedStep (with d) p o in
-        fit (after .replica) ≡ true
+        usable (after .replica) ≡ true
         → Ends (readAfter (quorum (r .sc)) said (o .read) ms) (replied room id said (after .replica) ms) (after .actions ++ repliedActs room id said (after .replica) ms)
         (after .answer ∷ repliedAnswers room id said (after .replica) ms)
 
     -- it stays open, as e
     then-open : (d e : Read) (ms : List ℕ)
-        → (fit (with e) ≡ true → Ends (readAfter (quorum (r .sc)) said e ms) (replied room id said (with e) ms) (repliedActs room id said (with e) ms) (repliedAnswers room id said (with e) ms))
+        → (usable (with e) ≡ true → Ends (readAfter (quorum (r .sc)) said e ms) (replied room id said (with e) ms) (repliedActs room id said (with e) ms) (repliedAnswers room id said (with e) ms))
         → Then d ms (stays 0 e)
     then-open d e ms rest =
         rw (replied-open (with d) p e, with-with d e) (λ f. record { done = (refl, rest f .done); still = rest f .still; shut = rest f .shut })
@@ -194,11 +205,14 @@ module _ (room id : ℕ) (said : ℕ → Tally) (r : Replica) (p : ℕ) where
         → Ends (readAfter (quorum (r .sc)) said d ms) (replied room id said (with d) ms) (repliedActs room id said (with d) ms) (repliedAnswers room id said (with d) ms)
     ends d [] s = record { done = tt; still = λ e. (refl, refl); shut = λ e. absurd (omega (arith, leb-true, s .waits)) }
     ends d (m ∷ ms) s =
-        let first : readReplyStep (with d) room m id false (said m) ≡ repliedStep (with d) p (replyTo (quorum (r .sc)) m false (said m) d) =
+        let first : step (with d) room (memberReply id said m) ≡ repliedStep (with d) p (replyTo (quorum (r .sc)) m false (said m) d) =
         one-reply d m (s .fits) (s .named) (s .members m (List·Memᴰ·head refl)) (s .few m (List·Memᴰ·head refl)) in
         let members : (x : ℕ) → x ∈ ms → x < r .sc .group = λ x o. s .members x (List·Memᴰ·tail o) in
         let few : (x : ℕ) → x ∈ ms → said x .count ≤ 8 = λ x o. s .few x (List·Memᴰ·tail o) in
-        rw first
+        subst
+        (λ (o : Outcome). Ends (readAfter (quorum (r .sc)) said d (m ∷ ms)) (replied room id said (o .replica) ms) (o .actions ++ repliedActs room id said (o .replica) ms)
+        (o .answer ∷ repliedAnswers room id said (o .replica) ms))
+        (sym first)
         (agreed-cases (quorum (r .sc)) said (Then d ms) d m ms (s .agreed)
         (λ t k. then-open d d ms
         (λ f. ends d ms (record { fits = f; named = s .named; agreed = k; members = members; few = few; waits = s .waits; up-to = rw (insert-again (d .acks) m t) at (s .up-to) })))
@@ -207,14 +221,14 @@ module _ (room id : ℕ) (said : ℕ → Tally) (r : Replica) (p : ℕ) where
         pick-cases (Then d ms) (leb (quorum (r .sc)) (countIn (e .acks))) (then-shut d e ms (s .named) k members few (s .up-to))
         (λ z. then-open d e ms
         (λ f. ends e ms (record { fits = f; named = s .named; agreed = k; members = members; few = few; waits = leb-false _ _ z; up-to = s .up-to }))))
-        (rw first at (fit-stays (with d) room (memberReply id said m) (s .fits))))
+        (subst (λ (o : Outcome). usable (o .replica) ≡ true) first (usable-stays (with d) room (memberReply id said m) (s .fits))))
 
 -- THE THEOREM
 
 -- what is said of the replies, of the read alone: a fit replica's tally has its places, its set is a group's
 pub agreed-of : (id : ℕ) (said : ℕ → Tally) (r : Replica) (ms : List ℕ) → ReadOpen id r → AgreeingReplies id said r ms → Agreed said (readOf r id) ms
 agreed-of id said r ms o h =
-    let fits = fit-facts r (o .fits) in
+    let fits = fit-facts r (usable-fit r (o .fits)) in
     let nine = group-bounds (r .sc .group) (fits .numbers .size) .1 in
     let two = and-both (leb (readOf r id .tally .count) 8) _ (fits .reads .each (readPlace r id) (o .known)) in
     record {
@@ -249,7 +263,7 @@ module _ (room id : ℕ) (said : ℕ → Tally) (r : Replica) (roomy : 3456 ≤ 
       let d : Read = readOf r id in
       let named : d .id ≡ id = find-id (r .reads) id (o .known) in
       let base : Base room id said r p =
-      record { below = o .known; table = fit-facts r (o .fits) .reads .count; long = o .sized .reads; ids = o .waiting .ids; here = named; roomy = roomy } in
+      record { below = o .known; table = fit-facts r (usable-fit r (o .fits)) .reads .count; long = o .sized .reads; ids = o .waiting .ids; here = named; roomy = roomy } in
       let same : withReads r (putRead (r .reads) p d) ≡ r = ap (λ (rs : Reads). withReads r rs) (put-back (r .reads) p) in
       subst
       (λ (x : Replica). Ends room id said r p (readAfter (quorum (r .sc)) said d ms) (replied room id said x ms) (repliedActs room id said x ms) (repliedAnswers room id said x ms))

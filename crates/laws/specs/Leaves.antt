@@ -30,7 +30,7 @@ abbrev pub keysAfter : Bool → ℕ → Batch → KeyTable → KeyTable
 keysAfter noted slot b t = pick noted (refresh slot b t) t
 
 abbrev pub withKeys : Replica → KeyTable → Replica
-withKeys r t = record { sc = r .sc; bars = r .bars; window = r .window; keys = t; reads = r .reads }
+withKeys r t = record { sc = r .sc; bars = r .bars; window = r .window; keys = t; reads = r .reads; summary = r .summary }
 
 -- what was decided for a slot, carried out
 abbrev pub settledTo : Replica → Window → ℕ → ℕ → Decided → Replica

@@ -19,6 +19,9 @@ pub mod GoodLogged
 pub mod Room
 pub mod Largest
 pub mod Theorems
+pub mod Summaries
+pub mod Falls
+pub mod SummaryRuns
 pub mod OpenReads
 pub mod AnyOrder
 pub mod InARow

@@ -26,7 +26,7 @@ use Rattle.decide.specs.Scalars.{isMember, quorum, mayBe}
 use Rattle.replica.specs.declared.Replica.{Replica}
 use Rattle.replica.specs.declared.Made.{Made}
 use Rattle.replica.specs.declared.Done.{Done}
-use Rattle.replica.specs.Record.{Outcome, place, newReplica}
+use Rattle.replica.specs.Record.{Outcome, place, newReplica, summed}
 use Rattle.replica.specs.Fit.{ready}
 use Rattle.replica.specs.Messages.{orKept, cleanReply, prepareReplyStep}
 use Rattle.replica.specs.Durability.{movedAccept, loggedOn, loggedStep}
@@ -194,6 +194,11 @@ module _ (r : Replica) (n : ℕ) (sized : Sized r) (w : Waiting r) where
       (pick-both P (ltb 8 (reply .count)) w
       (pick-cases P (leb (r .reads .count) (readPlace r id)) (λ t. w) (λ t. replied-waiting peer leader reply (readPlace r id) (leb-false _ _ t)))))
 
+waiting-summed : (o : Outcome) → Waiting (o .replica) → Waiting (summed o .replica)
+waiting-summed o w = record { ids = w .ids; waits = w .waits }
+
 pub waiting-stays : (r : Replica) (n : ℕ) (c : Call) → Sized r → Waiting r → Waiting (step r n c .replica)
 waiting-stays r n c s w =
-    call-cases (λ (x : Call). Waiting (step r n x .replica)) (λ x e. others-waiting r n x e w) (open-waiting r n s w) (reply-waiting r n s w) c
+    call-cases (λ (x : Call). Waiting (step r n x .replica)) (λ x e. others-waiting r n x e w)
+    (λ id count keys. waiting-summed (openReadStep r n id count keys) (open-waiting r n s w id count keys))
+    (λ peer id leader reply. waiting-summed (readReplyStep r n peer id leader reply) (reply-waiting r n s w peer id leader reply)) c

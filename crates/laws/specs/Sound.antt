@@ -1,12 +1,15 @@
 -- What holds of every outcome: which answers there are, that all but 0 give no actions and all but 0 and 12 change nothing, that there are
 -- no more than 191 actions, and what never changes.
-use mathlib.Core.Path.{_≡_, refl, sym, subst, _∙_}
-use mathlib.Core.Bool.{Bool}
+use mathlib.Core.Path.{_≡_, refl, sym, ap, subst, _∙_}
+use mathlib.Core.Bool.{Bool, true, _||_}
 use mathlib.Core.List.{List, [], _∷_}
 use Prim.Native.Nat.{ℕ, _+_, _≤_}
 use native.Mathlib.Nat.{le-refl}
 use native.Mathlib.Omega.{arith}
+use lib.Dec.{eqb}
 use lib.ListN.{length}
+use borrow.Author.Tests.{ne-eqb}
+use Rattle.base.specs.Pick.{pick, clash}
 use Rattle.base.specs.Gather.{length-gather}
 use Rattle.batch.specs.declared.Batch.{Batch}
 use Rattle.tally.specs.declared.Tally.{Tally}
@@ -20,21 +23,24 @@ use Rattle.decide.specs.Decide.{decideOffer}
 use Rattle.window.specs.declared.Window.{Window}
 use Rattle.window.specs.Window.{slotAt, firstOpen}
 use Rattle.window.specs.Acts.{markActs}
+use Rattle.window.specs.Summary.{walk}
 use Rattle.window.specs.Places.{size, put-long, filled-long, sweep-long}
 use Rattle.replica.specs.declared.Replica.{Replica}
 use Rattle.replica.specs.declared.Done.{Done}
-use Rattle.replica.specs.Record.{Outcome, place, number}
+use Rattle.replica.specs.Record.{Outcome, summed, place, number}
+use Rattle.replica.specs.Fit.{sums}
 use Rattle.replica.specs.Messages.{prepareBook, prepareStep, orKept, cleanReply, prepareReplyStep, acceptStep, acceptReplyStep}
 use Rattle.replica.specs.Leadership.{timeoutStep, commitNoticeStep}
 use Rattle.replica.specs.Durability.{movedAccept, passStop, loggedStep}
 use Rattle.replica.specs.Quorumread.{answerAct, openReadStep, readReplyStep}
 use Rattle.replica.specs.Added.{movedExec, offerStep, executedStep}
-use Rattle.replica.specs.Step.{Call, callPrepare, callPrepareReply, callAccept, callAcceptReply, callCommitNotice, callTimeout, callLogged, callOffer, callExecuted, callOpenRead, callReadReply, step}
+use Rattle.replica.specs.Step.{Call, callPrepare, callPrepareReply, callAccept, callAcceptReply, callCommitNotice, callTimeout, callLogged, callOffer, callExecuted, callOpenRead, callReadReply, does, step}
+use Rattle.replica.specs.ActingLaws.{withSummary}
 use Rattle.laws.specs.OfScalars.{Fixed, fixed-same, fixed-then, followed-fixed}
 use Rattle.laws.specs.OfFit.{FitNumbers, fit-facts}
 use Rattle.laws.specs.Conflict.{TallyOnly, Conflicts, conflict-only}
 use Rattle.laws.specs.Leaves.{done, orKept-ways}
-use Rattle.laws.specs.WaysMessages.{Keeps, prepareWindow, prepareEnd, prepareStep-ways, acceptWindow, acceptDecided, acceptStep-ways, acceptReplyStep-ways}
+use Rattle.laws.specs.WaysMessages.{keeping, keeping-low, Keeps, prepareWindow, prepareEnd, prepareStep-ways, acceptWindow, acceptDecided, acceptStep-ways, acceptReplyStep-ways}
 use Rattle.laws.specs.WaysReply.{prepareReplyStep-ways}
 use Rattle.laws.specs.WaysLeadership.{leadWindow, leadFrom, leadTrigger, leadEnd, markEnd, timeoutStep-ways, markFrom, markWindow, commitNoticeStep-ways}
 use Rattle.laws.specs.WaysDurability.{Logs, logged, withSlot, passFrom, loggedStep-ways}
@@ -42,7 +48,7 @@ use Rattle.laws.specs.WaysAdded.{offerWindow, offerStep-ways, executedSt
 use Rattle.laws.specs.Counts.{says-few, smaller-left, prepared-few, replyOn-leaves, led-few, mark-few, mark-end, moved-fixed, moved-window, completes-leaves, passed-few, logged-fixed, logged-long, logged-numbers, read-few}
 
 pub record Sound (C : Outcome → Type 0) (r : Replica) (o : Outcome) : Type 0 where
-  pub small : o .answer ≤ 12
+  pub answers : (keeping (sums r) (o .answer) || eqb (o .answer) 12) ≡ true
   pub silent : (o .answer ≡ 0 → ⊥) → o .actions ≡ []
   pub same : (o .answer ≡ 0 → ⊥) → (o .answer ≡ 12 → ⊥) → o .replica ≡ r
   pub conflict : o .answer ≡ 12 → C o
@@ -53,13 +59,13 @@ pub record Sound (C : Outcome → Type 0) (r : Replica) (o : Outcome) : Type 0 w
 module _ (C : Outcome → Type 0) where
   sound-kept : (r : Replica) → Keeps (Sound C r) r
   sound-kept r a h =
-      record { small = omega arith; silent = λ n. refl; same = λ n m. refl; conflict = λ e. absurd (omega arith); few = omega arith; fixed = fixed-same (r .sc); long = refl }
+      record { answers = rw h; silent = λ n. refl; same = λ n m. refl; conflict = λ e. absurd (clash h (ap (keeping (sums r)) e)); few = omega arith; fixed = fixed-same (r .sc); long = refl }
 
   -- what is left to show of a call that acts
   module _ (r after : Replica) (acts : List Act) where
     sound-done : length acts ≤ 191 → Fixed (r .sc) (after .sc) → size (after .window) ≡ size (r .window) → Sound C r (done after acts)
     sound-done f s l =
-        record { small = omega arith; silent = λ n. absurd (n refl); same = λ n m. absurd (n refl); conflict = λ e. absurd (omega arith); few = f; fixed = s; long = l }
+        record { answers = refl; silent = λ n. absurd (n refl); same = λ n m. absurd (n refl); conflict = λ e. absurd (omega arith); few = f; fixed = s; long = l }
 
   prepare-sound : (r : Replica) (n peer trigger ballot : ℕ) → Sound C r (prepareStep r n peer trigger ballot)
   prepare-sound r n peer trigger ballot =
@@ -84,7 +90,7 @@ module _ (C : Outcome → Type 0) where
   prepareReply-sound : (r : Replica) (n peer : ℕ) (m : Reply) → Sound C r (prepareReplyStep r n peer m)
   prepareReply-sound r n peer m =
       prepareReplyStep-ways (Sound C r) r n peer m (λ a h z. sound-kept r a h)
-      (λ f. replyOn-leaves (Sound C r) r peer (cleanReply m) (fit-facts r (f .fits) .numbers .window) (sound-kept r) (λ after acts. sound-done r after acts))
+      (λ f. replyOn-leaves (Sound C r) r peer (cleanReply m) (fit-facts r (f .fits) .numbers .window) (λ a h. sound-kept r a (keeping-low (sums r) a h)) (λ after acts. sound-done r after acts))
 
   timeout-sound : (r : Replica) (n source : ℕ) → Sound C r (timeoutStep r n source)
   timeout-sound r n source =
@@ -113,7 +119,7 @@ module _ (C : Outcome → Type 0) where
       let idle : Sound C r (done r′ []) = acts r′ [] (omega arith) (fixed-same (r′ .sc)) refl in
       loggedStep-ways (Sound C r) r n d (λ a h z. sound-kept r a h) (λ f z. idle)
       (λ f e o. replyOn-leaves (λ (o : Outcome). Sound C r (orKept r o)) r′ (r′ .sc .id) _ (numbers f .window)
-      (λ a h. orKept-ways (Sound C r) r a r′ (λ z. idle) (λ z. sound-kept r a h)) acts)
+      (λ a h. orKept-ways (Sound C r) r a r′ (λ z. idle) (λ z. sound-kept r a (keeping-low (sums r) a h))) acts)
       (λ f e l p. acts r′ _ (omega arith) (fixed-same (r′ .sc)) refl)
       (λ f e after says c.
       completes-leaves (λ (x : Replica) (y : List Act). Sound C r (done (movedAccept x (d .slot)) y)) r′ (place (r .sc) (d .slot)) (d .slot) after says c
@@ -160,7 +166,7 @@ readReply-sound r n peer id fromLeader reply =
     (λ f k. sound-stayed C r i (withAck (mergedRead d reply k) peer))
     (λ f k.
     record {
-      small = le-refl 12;
+      answers = refl;
       silent = λ n. refl;
       same = λ n m. absurd (m refl);
       conflict = λ e. conflict-only r id reply k;
@@ -169,16 +175,38 @@ readReply-sound r n peer id fromLeader reply =
       long = refl;
     })
 
+-- every call, the summary aside
+does-sound : (r : Replica) (n : ℕ) (c : Call) → Sound (Conflicts r c) r (does r n c)
+does-sound r n (callPrepare peer trigger ballot) = prepare-sound _ r n peer trigger ballot
+does-sound r n (callPrepareReply peer m) = prepareReply-sound _ r n peer m
+does-sound r n (callAccept peer slot ballot b) = accept-sound _ r n peer slot ballot b
+does-sound r n (callAcceptReply peer slot ballot) = acceptReply-sound _ r n peer slot ballot
+does-sound r n (callCommitNotice peer ballot bar) = commitNotice-sound _ r n peer ballot bar
+does-sound r n (callTimeout source) = timeout-sound _ r n source
+does-sound r n (callLogged d) = logged-sound _ r n d
+does-sound r n (callOffer b) = offer-sound _ r n b
+does-sound r n (callExecuted slot) = executed-sound _ r n slot
+does-sound r n (callOpenRead id count keys) = openRead-sound _ r n id count keys
+does-sound r n (callReadReply peer id fromLeader reply) = readReply-sound r n peer id fromLeader reply
+
+-- the summary changes in a call that is answered 0 alone
+pub summed-same : (o : Outcome) → (o .answer ≡ 0 → ⊥) → summed o ≡ o
+summed-same o n =
+    let q : pick (eqb (o .answer) 0) (walk (o .replica .sc) (o .replica .window)) (o .replica .summary) ≡ o .replica .summary = rw (ne-eqb (o .answer) 0 n) in
+    λ k. record { answer = o .answer; replica = withSummary (o .replica) (q k); actions = o .actions }
+
+sound-summed : (C : Outcome → Type 0) (r : Replica) (o : Outcome) → Sound C r o → Sound C r (summed o)
+sound-summed C r o s =
+    record {
+      answers = s .answers;
+      silent = s .silent;
+      same = λ n m. ap (λ (x : Outcome). x .replica) (summed-same o n) ∙ s .same n m;
+      conflict = λ e. subst C (sym (summed-same o (λ z. omega arith))) (s .conflict e);
+      few = s .few;
+      fixed = s .fixed;
+      long = s .long;
+    }
+
 -- every call
 pub step-sound : (r : Replica) (n : ℕ) (c : Call) → Sound (Conflicts r c) r (step r n c)
-step-sound r n (callPrepare peer trigger ballot) = prepare-sound _ r n peer trigger ballot
-step-sound r n (callPrepareReply peer m) = prepareReply-sound _ r n peer m
-step-sound r n (callAccept peer slot ballot b) = accept-sound _ r n peer slot ballot b
-step-sound r n (callAcceptReply peer slot ballot) = acceptReply-sound _ r n peer slot ballot
-step-sound r n (callCommitNotice peer ballot bar) = commitNotice-sound _ r n peer ballot bar
-step-sound r n (callTimeout source) = timeout-sound _ r n source
-step-sound r n (callLogged d) = logged-sound _ r n d
-step-sound r n (callOffer b) = offer-sound _ r n b
-step-sound r n (callExecuted slot) = executed-sound _ r n slot
-step-sound r n (callOpenRead id count keys) = openRead-sound _ r n id count keys
-step-sound r n (callReadReply peer id fromLeader reply) = readReply-sound r n peer id fromLeader reply
+step-sound r n c = sound-summed (Conflicts r c) r (does r n c) (does-sound r n c)

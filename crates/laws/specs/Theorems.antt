@@ -1,21 +1,22 @@
 -- What holds of every call, over all replicas, rooms and calls.
-use mathlib.Core.Path.{_≡_, refl}
-use mathlib.Core.Bool.{Bool, true, false, _&&_}
+use mathlib.Core.Path.{_≡_, refl, sym, subst, _∙_}
+use mathlib.Core.Bool.{Bool, true, false, not, _&&_, and-false}
 use mathlib.Core.List.{[]}
-use mathlib.Core.Logic.{_⊎_, inl, inr}
+use mathlib.Core.Logic.{_⊎_, inl, inr, ⊎-elim}
 use Prim.Native.Nat.{ℕ, _≤_, _<_}
 use native.Mathlib.Omega.{arith}
-use lib.Dec.{leb}
+use lib.Dec.{leb, eqb}
 use lib.ListN.{length}
-use borrow.Author.Tests.{le-leb, lt-leb}
-use Rattle.base.specs.Pick.{pick-both, decide}
+use borrow.Author.Tests.{le-leb, lt-leb, eqb-true, not-true}
+use Rattle.base.specs.Pick.{pick-both, decide, and-left, and-right, or-cases, clash, tests}
 use Rattle.decide.specs.Scalars.{mayBe, fitScalars}
 use Rattle.window.specs.Places.{size}
 use Rattle.replica.specs.declared.Replica.{Replica}
 use Rattle.replica.specs.declared.Made.{Made}
-use Rattle.replica.specs.Record.{kept, zeroReplica, newReplica}
-use Rattle.replica.specs.Fit.{fit}
+use Rattle.replica.specs.Record.{Outcome, kept, zeroReplica, newReplica}
+use Rattle.replica.specs.Fit.{fit, sums}
 use Rattle.replica.specs.Step.{Call, step}
+use Rattle.laws.specs.WaysMessages.{keeping}
 use Rattle.laws.specs.Sound.{step-sound}
 use Rattle.laws.specs.Conflict.{Conflicts}
 use Rattle.laws.specs.Room.{step-unready, step-room}
@@ -35,9 +36,20 @@ refusals-keep r n c = step-sound r n c .same
 pub few-actions : (r : Replica) (n : ℕ) (c : Call) → length (step r n c .actions) ≤ 192
 few-actions r n c = omega (arith, step-sound r n c .few)
 
--- 01's table of answers; 13 is the trace's
-pub few-answers : (r : Replica) (n : ℕ) (c : Call) → step r n c .answer ≤ 12
-few-answers r n c = step-sound r n c .small
+-- 01's table of answers, with 02's 14 where the summary is not the walk's; 13 is the trace's
+pub few-answers : (r : Replica) (n : ℕ) (c : Call) → (step r n c .answer ≤ 12) ⊎ ((step r n c .answer ≡ 14) × (sums r ≡ false))
+few-answers r n c = go (or-cases (keeping (sums r) (step r n c .answer)) _ (step-sound r n c .answers))
+  where
+    wrong : (t : Bool) → ((eqb (step r n c .answer) 14 && not t) ≡ true) → (step r n c .answer ≡ 14) × (t ≡ false)
+    wrong t e = (eqb-true _ _ (and-left (eqb (step r n c .answer) 14) (not t) e), not-true t (and-right (eqb (step r n c .answer) 14) (not t) e))
+
+    go : (keeping (sums r) (step r n c .answer) ≡ true) ⊎ (eqb (step r n c .answer) 12 ≡ true) → (step r n c .answer ≤ 12) ⊎ ((step r n c .answer ≡ 14) × (sums r ≡ false))
+    go (inl k) = ⊎-elim (λ (t : leb (step r n c .answer) 11 ≡ true). inl (omega (arith, tests))) (λ t. inr (wrong (sums r) t)) (or-cases (leb (step r n c .answer) 11) _ k)
+    go (inr e) = inl (omega (arith, tests))
+
+-- 02, Wish 1: 14 to no record that has the walk's numbers
+pub never-fourteen : (r : Replica) (n : ℕ) (c : Call) → sums r ≡ true → step r n c .answer ≡ 14 → ⊥
+never-fourteen r n c e f = ⊎-elim (λ (t : step r n c .answer ≤ 12). omega arith) (λ t. clash e (t .1)) (few-answers r n c)
 
 pub id-stays : (r : Replica) (n : ℕ) (c : Call) → step r n c .replica .sc .id ≡ r .sc .id
 id-stays r n c = step-sound r n c .fixed .id
@@ -58,18 +70,18 @@ slots-stay r n c = step-sound r n c .long
 
 -- 01: "each call is lent room for 192": the room's length decides only between 1 and the rest
 pub short-room : (r : Replica) (n : ℕ) (c : Call) → n < 3456 → step r n c ≡ kept 1 r
-short-room r n c h = step-unready r n c (rw (lt-leb 3456 n h))
+short-room r n c h = step-unready r n c (rw (lt-leb 3456 n h)) ∙ rw (lt-leb 3456 n h)
 
 pub any-room : (r : Replica) (n n′ : ℕ) (c : Call) → 3456 ≤ n → 3456 ≤ n′ → step r n c ≡ step r n′ c
 any-room r n n′ c h h′ = step-room r n n′ c (rw (le-leb 3456 n h, le-leb 3456 n′ h′))
 
 -- 1: "record unfit"
 pub unfit : (r : Replica) (n : ℕ) (c : Call) → fit r ≡ false → step r n c ≡ kept 1 r
-unfit r n c e = step-unready r n c (rw e (and-none (leb 3456 n)))
-  where
-    and-none : (b : Bool) → (b && false) ≡ false
-    and-none true = refl
-    and-none false = refl
+unfit r n c e = step-unready r n c (rw (e, and-false (leb 3456 n))) ∙ rw (e, and-false (leb 3456 n))
+
+-- 02, Wish 1: "14, summary not equal to the walk, after 1"
+pub unsummed : (r : Replica) (n : ℕ) (c : Call) → 3456 ≤ n → fit r ≡ true → sums r ≡ false → step r n c ≡ kept 14 r
+unsummed r n c h e f = step-unready r n c (rw (le-leb 3456 n h, e, f)) ∙ rw (le-leb 3456 n h, e)
 
 -- 01: "A refused new replica is the all-zero record, which is unfit."
 zero-unfit : fit zeroReplica ≡ false
@@ -106,7 +118,7 @@ sizes-stay r n c s = go (decide (fit r))
     go : (fit r ≡ true) ⊎ (fit r ≡ false) → Sized (step r n c .replica)
     go (inl e) =
         good-sized (Unit {0}) (step r n c .replica) tt (step-good (Unit {0}) r (fits-good (Unit {0}) r (λ z. s) (fit-facts r e)) n c)
-    go (inr e) = rw (unfit r n c e) s
+    go (inr e) = subst (λ (o : Outcome). Sized (o .replica)) (sym (unfit r n c e)) s
 
 -- a new replica, made or refused, has them
 pub new-sized : (id group start options : ℕ) → Sized (newReplica id group start options .replica)

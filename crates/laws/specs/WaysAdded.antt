@@ -7,7 +7,7 @@ use Prim.Native.Nat.{ℕ, _+_, _≤_, _<_}
 use native.Mathlib.Omega.{arith}
 use lib.Dec.{ltb, leb, eqb}
 use lib.ListN.{getD, set}
-use borrow.Author.Tests.{ltb-true, ltb-false, leb-false, eqb-false, not-false}
+use borrow.Author.Tests.{ltb-true, ltb-false, leb-false, eqb-false, not-true, not-false}
 use Rattle.base.specs.Pick.{pick-cases, or-false, decide}
 use Rattle.base.specs.Gather.{gather}
 use Rattle.members.specs.Sets.{has, countIn}
@@ -31,12 +31,12 @@ use Rattle.window.specs.declared.Window.{Window}
 use Rattle.window.specs.Window.{slotAt, putSlot, grown}
 use Rattle.replica.specs.declared.Replica.{Replica}
 use Rattle.replica.specs.Record.{Outcome, settled, place, logEnd}
-use Rattle.replica.specs.Fit.{fit, ready}
+use Rattle.replica.specs.Fit.{fit, ready, unready}
 use Rattle.replica.specs.Messages.{clean}
 use Rattle.replica.specs.Added.{offerStep, movedExec, executedStep}
 use Rattle.replica.specs.Quorumread.{withReads, opened, openReadStep, answerAct, repliedStep, readReplyStep}
 use Rattle.laws.specs.Leaves.{done, settledTo, noting-ways}
-use Rattle.laws.specs.WaysMessages.{Keeps, ready-fit}
+use Rattle.laws.specs.WaysMessages.{Keeps, unready-keeping, ready-fit}
 
 -- ── an offer ──
 abbrev pub offerWindow : Replica → Window
@@ -59,11 +59,11 @@ pub record Offers (r : Replica) (b : Batch) : Type 0 where
 pub offerStep-ways : (P : Outcome → Type 0) (r : Replica) (n : ℕ) (b : Batch) → Keeps P r → (Offers r b → P (offered r b)) → P (offerStep r n b)
 unfolding offerStep settled decideOffer
 offerStep-ways P r n b k on =
-    pick-cases P (not (ready r n)) (λ a. k 1 (omega arith))
-    (λ a. pick-cases P (not (isBatch (b .id) (b .count))) (λ c. k 10 (omega arith))
-    (λ c. pick-cases P (not (mayOffer (r .sc))) (λ d. k 9 (omega arith))
-    (λ d. pick-cases P (leb 64 (r .window .len)) (λ e. k 5 (omega arith))
-    (λ e. noting-ways P r true (logEnd r) (clean b) _ _ refl (k 7 (omega arith))
+    pick-cases P (not (ready r n)) (λ a. k (unready r n) (unready-keeping r n (not-true _ a)))
+    (λ a. pick-cases P (not (isBatch (b .id) (b .count))) (λ c. k 10 refl)
+    (λ c. pick-cases P (not (mayOffer (r .sc))) (λ d. k 9 refl)
+    (λ d. pick-cases P (leb 64 (r .window .len)) (λ e. k 5 refl)
+    (λ e. noting-ways P r true (logEnd r) (clean b) _ _ refl (k 7 refl)
     (λ f. on
     (record { fits = ready-fit r n (not-false _ a); batch = not-false _ c; may = not-false _ d; room = leb-false _ _ e; free = f }))))))
 
@@ -82,9 +82,9 @@ pub record Executes (r : Replica) (slot : ℕ) : Type 0 where
 pub executedStep-ways : (P : Outcome → Type 0) (r : Replica) (n slot : ℕ) → Keeps P r → (Executes r slot → P (afterExecuted r slot)) → P (executedStep r n slot)
 unfolding executedStep
 executedStep-ways P r n slot k on =
-    pick-cases P (not (ready r n)) (λ a. k 1 (omega arith))
-    (λ a. pick-cases P (ltb slot (r .sc .start)) (λ b. k 0 (omega arith))
-    (λ b. pick-cases P (leb (logEnd r) slot) (λ c. k 4 (omega arith))
+    pick-cases P (not (ready r n)) (λ a. k (unready r n) (unready-keeping r n (not-true _ a)))
+    (λ a. pick-cases P (ltb slot (r .sc .start)) (λ b. k 0 refl)
+    (λ b. pick-cases P (leb (logEnd r) slot) (λ c. k 4 refl)
     (λ c. on (record { fits = ready-fit r n (not-false _ a); low = ltb-false _ _ b; high = leb-false _ _ c }))))
 
 -- ── a read opened ──
@@ -103,9 +103,9 @@ pub openReadStep-ways : (P : Outcome → Type 0) (r : Replica) (n id count : ℕ
     → P (openReadStep r n id count keys)
 unfolding openReadStep openRead
 openReadStep-ways P r n id count keys k on =
-    pick-cases P (not (ready r n)) (λ a. k 1 (omega arith))
-    (λ a. pick-cases (λ (o : Opened). P (opened r o)) (eqb count 0 || ltb 8 count || isOpen (r .reads) id) (λ b. k 10 (omega arith))
-    (λ b. pick-cases (λ (o : Opened). P (opened r o)) (leb 16 (r .reads .count)) (λ c. k 11 (omega arith))
+    pick-cases P (not (ready r n)) (λ a. k (unready r n) (unready-keeping r n (not-true _ a)))
+    (λ a. pick-cases (λ (o : Opened). P (opened r o)) (eqb count 0 || ltb 8 count || isOpen (r .reads) id) (λ b. k 10 refl)
+    (λ b. pick-cases (λ (o : Opened). P (opened r o)) (leb 16 (r .reads .count)) (λ c. k 11 refl)
     (λ c.
     let d = or-false (eqb count 0 || ltb 8 count) _ b in
     let e = or-false (eqb count 0) _ (d .0) in
@@ -149,8 +149,8 @@ module _ (P : Outcome → Type 0) (r : Replica) (n peer id : ℕ) (fromLeader : 
       let c : ℕ = conflictAt (d .tally) reply in
       pick-cases (λ (x : Replied). P (repliedStep r i x)) fromLeader (λ a. told)
       (λ a. pick-cases (λ (x : Replied). P (repliedStep r i x)) (has (d .acks) peer) (λ b. same)
-      (λ b. merge-cases (d .tally) reply (λ (m : Merged). P (repliedStep r i (acknowledged (quorum (r .sc)) peer d m))) (k 1 (omega arith)) (k 10 (omega arith))
-      (k 6 (omega arith)) (λ e f h. conflict c)
+      (λ b. merge-cases (d .tally) reply (λ (m : Merged). P (repliedStep r i (acknowledged (quorum (r .sc)) peer d m))) (k 1 refl) (k 10 refl)
+      (k 6 refl) (λ e f h. conflict c)
       (λ e f h. ⊎-elim (λ (e : leb (quorum (r .sc)) (countIn (withAck (mergedRead d reply c) peer .acks)) ≡ true). rw e (full c))
       (λ (e : leb (quorum (r .sc)) (countIn (withAck (mergedRead d reply c) peer .acks)) ≡ false). rw e (less c))
       (decide (leb (quorum (r .sc)) (countIn (withAck (mergedRead d reply c) peer .acks)))))))
@@ -164,10 +164,10 @@ module _ (P : Outcome → Type 0) (r : Replica) (n peer id : ℕ) (fromLeader : 
       → P (readReplyStep r n peer id fromLeader reply)
   unfolding readReplyStep
   readReplyStep-ways k told full same less conflict =
-      pick-cases P (not (ready r n)) (λ a. k 1 (omega arith))
-      (λ a. pick-cases P (not (isMember (r .sc) peer)) (λ b. k 2 (omega arith))
-      (λ b. pick-cases P (ltb 8 (reply .count)) (λ c. k 10 (omega arith))
-      (λ c. pick-cases P (leb (r .reads .count) (readPlace r id)) (λ d. k 0 (omega arith))
+      pick-cases P (not (ready r n)) (λ a. k (unready r n) (unready-keeping r n (not-true _ a)))
+      (λ a. pick-cases P (not (isMember (r .sc) peer)) (λ b. k 2 refl)
+      (λ b. pick-cases P (ltb 8 (reply .count)) (λ c. k 10 refl)
+      (λ c. pick-cases P (leb (r .reads .count) (readPlace r id)) (λ d. k 0 refl)
       (λ d.
       let f : Asked r peer id reply =
       record { fits = ready-fit r n (not-false _ a); member = ltb-true _ _ (not-false _ b); few = ltb-false _ _ c; known = leb-false _ _ d } in

@@ -5,7 +5,7 @@ use mathlib.Core.List.{List, [], _++_}
 use Prim.Native.Nat.{ℕ, _≤_, _<_}
 use native.Mathlib.Omega.{arith}
 use lib.Dec.{ltb, leb, eqb}
-use borrow.Author.Tests.{ltb-true, ltb-false, leb-true, leb-false, le-leb, eqb-true, eq-eqb, not-false}
+use borrow.Author.Tests.{ltb-true, ltb-false, leb-true, leb-false, le-leb, eqb-true, eq-eqb, not-true, not-false}
 use Rattle.base.specs.Pick.{pick, pick-both, pick-cases, and-left, and-right, and-make, clash}
 use Rattle.base.specs.Gather.{gather}
 use Rattle.members.specs.Sets.{countIn}
@@ -24,12 +24,12 @@ use Rattle.replica.specs.declared.Entry.{Entry}
 use Rattle.replica.specs.declared.Entry.the-variants.{PrepareBal, AcceptData, CommitSlot}
 use Rattle.replica.specs.declared.Done.{Done}
 use Rattle.replica.specs.Record.{Outcome, kept, noting, settled, withWindow, place, number, logEnd}
-use Rattle.replica.specs.Fit.{fit, ready}
+use Rattle.replica.specs.Fit.{fit, ready, unready}
 use Rattle.replica.specs.Messages.{orKept, replyOn}
 use Rattle.replica.specs.Durability.{entryNumber, preparedDone, movedAccept, thenMoved, acceptedDone, noticeActs, passOn, passStop, committedDone, doneOn, loggedOn, loggedStep}
 use Rattle.laws.specs.Leaves.{done, put-back, settled-silent}
 use Rattle.laws.specs.OfDecide.{commits, promises, reports, Acknowledges, decidePromised-ways, decideAccepted-ways}
-use Rattle.laws.specs.WaysMessages.{KeepsFor, ready-fit}
+use Rattle.laws.specs.WaysMessages.{KeepsFor, unready-keeping, unready-some, ready-fit}
 
 -- two kinds of entry are not one
 pub other-entry : {A : Type 0} (a b : Entry) → eqb (entryNumber a) (entryNumber b) ≡ false → a ≡ b → A
@@ -136,10 +136,10 @@ module _ (P : Outcome → Type 0) (r : Replica) (n : ℕ) (d : Done) where
       → P (loggedStep r n d)
   unfolding loggedStep
   loggedStep-ways k idle own told moved pass =
-      pick-cases P (not (ready r n)) (λ a. k 1 (omega arith) (λ z. absurd (omega arith)))
-      (λ a. pick-cases P (ltb (d .slot) (r .sc .start)) (λ b. k 0 (omega arith) (λ z. ltb-true _ _ b))
-      (λ b. pick-cases P (leb (logEnd r) (d .slot)) (λ c. k 4 (omega arith) (λ z. absurd (omega arith)))
-      (λ c. pick-cases P (ltb (d .size) (r .sc .«wal_offset»)) (λ e. k 6 (omega arith) (λ z. absurd (omega arith)))
+      pick-cases P (not (ready r n)) (λ a. k (unready r n) (unready-keeping r n (not-true _ a)) (λ z. absurd (unready-some r n z)))
+      (λ a. pick-cases P (ltb (d .slot) (r .sc .start)) (λ b. k 0 refl (λ z. ltb-true _ _ b))
+      (λ b. pick-cases P (leb (logEnd r) (d .slot)) (λ c. k 4 refl (λ z. absurd (omega arith)))
+      (λ c. pick-cases P (ltb (d .size) (r .sc .«wal_offset»)) (λ e. k 6 refl (λ z. absurd (omega arith)))
       (λ e.
       go (record { fits = ready-fit r n (not-false _ a); low = ltb-false _ _ b; high = leb-false _ _ c; size = ltb-false _ _ e }) (d .entry) refl))))
     where
@@ -147,5 +147,5 @@ module _ (P : Outcome → Type 0) (r : Replica) (n : ℕ) (d : Done) where
       go f PrepareBal e =
           preparedDone-ways (λ (o : Outcome). P (orKept r o)) (logged r d) (place (r .sc) (d .slot)) (d .slot) (λ n. idle f (λ z. n)) (own f e) (told f e)
       go f AcceptData e =
-          acceptedDone-ways (λ (o : Outcome). P (orKept r o)) (logged r d) (place (r .sc) (d .slot)) (d .slot) (k 6 (omega arith) (λ z. absurd (omega arith))) (moved f e)
+          acceptedDone-ways (λ (o : Outcome). P (orKept r o)) (logged r d) (place (r .sc) (d .slot)) (d .slot) (k 6 refl (λ z. absurd (omega arith))) (moved f e)
       go f CommitSlot e = committedDone-ways (λ (o : Outcome). P (orKept r o)) (logged r d) (d .slot) (idle f (λ z. other-entry CommitSlot PrepareBal refl (sym e ∙ z))) (pass f e)

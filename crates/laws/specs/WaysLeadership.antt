@@ -5,7 +5,7 @@ use mathlib.Core.List.{[], _∷_, _++_}
 use Prim.Native.Nat.{ℕ, _+_, _≤_, _<_}
 use native.Mathlib.Omega.{arith}
 use lib.Dec.{ltb, leb, eqb}
-use borrow.Author.Tests.{ltb-true, ltb-false, leb-false, eqb-true, not-false}
+use borrow.Author.Tests.{ltb-true, ltb-false, leb-false, eqb-true, not-true, not-false}
 use Rattle.base.specs.Pick.{pick-cases}
 use Rattle.base.specs.Gather.{gather}
 use Rattle.members.specs.declared.NextBallot.{NextBallot}
@@ -22,10 +22,10 @@ use Rattle.window.specs.Window.{slotAt, grown, sweep, firstOpen, lastOpen, mark
 use Rattle.window.specs.Acts.{redoActs, markActs}
 use Rattle.replica.specs.declared.Replica.{Replica}
 use Rattle.replica.specs.Record.{Outcome, withWindow, place, number}
-use Rattle.replica.specs.Fit.{fit, ready}
+use Rattle.replica.specs.Fit.{fit, ready, unready}
 use Rattle.replica.specs.Leadership.{leadOn, stepUp, timeoutStep, markOn, commitNoticeStep}
 use Rattle.laws.specs.Leaves.{done}
-use Rattle.laws.specs.WaysMessages.{Keeps, Peer, peer-facts, ready-fit}
+use Rattle.laws.specs.WaysMessages.{Keeps, unready-keeping, Peer, peer-facts, ready-fit}
 
 -- ── a timeout: self steps up ──
 abbrev pub leadWindow : Replica → Window
@@ -49,6 +49,7 @@ led r ballot =
       window = sweep (λ i s. redoneSlot ballot (newBook (leadTrigger r) (leadEnd r)) s) (leadFrom r) (leadWindow r .len) (leadWindow r);
       keys = r .keys;
       reads = r .reads;
+      summary = r .summary;
     })
     (bare StatusUp ∷ bare Heartbeat
     ∷ (gather (λ i. redoActs (number (r .sc) i) ballot (slotAt (leadWindow r) i)) (leadFrom r) (leadWindow r .len)
@@ -69,18 +70,18 @@ leads-up r source ballot f = omega (arith, next-given (r .sc .«bal_max_seen») 
 stepUp-ways : (P : Outcome → Type 0) (r : Replica) (b : NextBallot) → Keeps P r
     → ((ballot : ℕ) → b ≡ Ballot ballot → r .sc .«exec_bar» ≤ leadTrigger r → firstOpen (r .window) < 64 → P (led r ballot)) → P (stepUp r b)
 unfolding stepUp leadOn
-stepUp-ways P r Spent k on = k 8 (omega arith)
+stepUp-ways P r Spent k on = k 8 refl
 stepUp-ways P r (Ballot b) k on =
-    pick-cases P (ltb (number (r .sc) (firstOpen (r .window))) (r .sc .«exec_bar»)) (λ a. k 8 (omega arith))
-    (λ a. pick-cases P (leb 64 (firstOpen (r .window))) (λ c. k 5 (omega arith)) (λ c. on b refl (ltb-false _ _ a) (leb-false _ _ c)))
+    pick-cases P (ltb (number (r .sc) (firstOpen (r .window))) (r .sc .«exec_bar»)) (λ a. k 8 refl)
+    (λ a. pick-cases P (leb 64 (firstOpen (r .window))) (λ c. k 5 refl) (λ c. on b refl (ltb-false _ _ a) (leb-false _ _ c)))
 
 pub timeoutStep-ways : (P : Outcome → Type 0) (r : Replica) (n source : ℕ) → Keeps P r → ((ballot : ℕ) → Leads r source ballot → P (led r ballot))
     → P (timeoutStep r n source)
 unfolding timeoutStep
 timeoutStep-ways P r n source k on =
-    pick-cases P (not (ready r n)) (λ a. k 1 (omega arith))
-    (λ a. pick-cases P (not (isMember (r .sc) source)) (λ b. k 2 (omega arith))
-    (λ b. pick-cases P (ignoresTimeout (r .sc) source) (λ c. k 0 (omega arith))
+    pick-cases P (not (ready r n)) (λ a. k (unready r n) (unready-keeping r n (not-true _ a)))
+    (λ a. pick-cases P (not (isMember (r .sc) source)) (λ b. k 2 refl)
+    (λ b. pick-cases P (ignoresTimeout (r .sc) source) (λ c. k 0 refl)
     (λ c. stepUp-ways P r (nextBallot (r .sc .«bal_max_seen») (r .sc .id)) k
     (λ ballot e l h. on ballot
     (record {
@@ -119,12 +120,12 @@ pub commitNoticeStep-ways : (P : Outcome → Type 0) (r : Replica) (n peer ballo
     → P (commitNoticeStep r n peer ballot bar)
 unfolding commitNoticeStep markOn
 commitNoticeStep-ways P r n peer ballot bar k on =
-    pick-cases P (not (ready r n)) (λ a. k 1 (omega arith))
-    (λ a. pick-cases P (not (isPeer (r .sc) peer)) (λ b. k 2 (omega arith))
-    (λ b. pick-cases P (not (owns ballot peer)) (λ c. k 3 (omega arith))
-    (λ c. pick-cases P (not (eqb ballot (r .sc .«bal_max_seen»))) (λ d. k 0 (omega arith))
-    (λ d. pick-cases P (leb bar (r .sc .«commit_bar»)) (λ e. k 0 (omega arith))
-    (λ e. pick-cases P (ltb (r .sc .start + 64) bar) (λ f. k 5 (omega arith))
+    pick-cases P (not (ready r n)) (λ a. k (unready r n) (unready-keeping r n (not-true _ a)))
+    (λ a. pick-cases P (not (isPeer (r .sc) peer)) (λ b. k 2 refl)
+    (λ b. pick-cases P (not (owns ballot peer)) (λ c. k 3 refl)
+    (λ c. pick-cases P (not (eqb ballot (r .sc .«bal_max_seen»))) (λ d. k 0 refl)
+    (λ d. pick-cases P (leb bar (r .sc .«commit_bar»)) (λ e. k 0 refl)
+    (λ e. pick-cases P (ltb (r .sc .start + 64) bar) (λ f. k 5 refl)
     (λ f. on
     (record {
       fits = ready-fit r n (not-false _ a);

@@ -1,12 +1,13 @@
 -- The ways that a Prepare, an Accept and an AcceptReply go: each leaves the replica as it was, or acts under facts that are listed here.
-use mathlib.Core.Path.{_≡_, refl, sym, subst}
-use mathlib.Core.Bool.{true, false, not}
+use mathlib.Core.Path.{_≡_, refl, sym, ap, subst}
+use mathlib.Core.Bool.{Bool, true, false, not, _&&_, _||_}
+use mathlib.Core.Logic.{_⊎_, inl, inr}
 use mathlib.Core.List.{[], _∷_, _++_}
 use Prim.Native.Nat.{ℕ, _+_, _≤_, _<_}
 use native.Mathlib.Omega.{arith}
 use lib.Dec.{ltb, leb, eqb}
 use borrow.Author.Tests.{ltb-true, ltb-false, leb-false, eqb-true, eqb-false, not-true, not-false}
-use Rattle.base.specs.Pick.{pick-cases, and-left, and-right}
+use Rattle.base.specs.Pick.{pick-both, pick-cases, and-left, and-right, and-both, and-make, clash, decide}
 use Rattle.base.specs.Gather.{gather}
 use Rattle.base.specs.Find.{any}
 use Rattle.members.specs.Ballots.{owns}
@@ -25,18 +26,46 @@ use Rattle.window.specs.Window.{slotAt, putSlot, grown, sweep}
 use Rattle.window.specs.Acts.{promise}
 use Rattle.replica.specs.declared.Replica.{Replica}
 use Rattle.replica.specs.Record.{Outcome, kept, noting, settled, withWindow, place, number, logEnd}
-use Rattle.replica.specs.Fit.{fit, roomy, ready}
+use Rattle.replica.specs.Fit.{fit, roomy, sums, ready, unready}
 use Rattle.replica.specs.Messages.{clean, downActs, prepareTop, prepareBook, prepareOn, prepareStep, acceptStep, acceptReplyStep}
 use Rattle.laws.specs.Leaves.{done, settledTo, settled-silent, noting-ways}
 use Rattle.laws.specs.OfDecide.{accepts, commits, Acknowledges, decideAccept-ways, decideAcceptReply-ways}
 
--- of every refusal and of every call that is ignored: the replica is as it was, and the answer is neither 12 nor 13
+-- the answers with which a replica is kept: 0 to 11, and 14 where the summary is not the walk's; neither 12 nor 13
+abbrev pub keeping : Bool → ℕ → Bool
+keeping sum a = leb a 11 || (eqb a 14 && not sum)
+
+pub keeping-low : (sum : Bool) (a : ℕ) → leb a 11 ≡ true → keeping sum a ≡ true
+keeping-low sum a e = rw e
+
+-- of every refusal and of every call that is ignored: the replica is as it was
 abbrev pub Keeps : (Outcome → Type 0) → Replica → Type 0
-Keeps P r = (a : ℕ) → a ≤ 11 → P (kept a r)
+Keeps P r = (a : ℕ) → keeping (sums r) a ≡ true → P (kept a r)
 
 -- the same, told why a call is ignored
 abbrev pub KeepsFor : Type 0 → (Outcome → Type 0) → Replica → Type 0
-KeepsFor Why P r = (a : ℕ) → a ≤ 11 → (a ≡ 0 → Why) → P (kept a r)
+KeepsFor Why P r = (a : ℕ) → keeping (sums r) a ≡ true → (a ≡ 0 → Why) → P (kept a r)
+
+-- the same past the first test, where 14 is given no more
+abbrev pub KeepsLow : (Outcome → Type 0) → Replica → Type 0
+KeepsLow P r = (a : ℕ) → leb a 11 ≡ true → P (kept a r)
+
+abbrev pub KeepsLowFor : Type 0 → (Outcome → Type 0) → Replica → Type 0
+KeepsLowFor Why P r = (a : ℕ) → leb a 11 ≡ true → (a ≡ 0 → Why) → P (kept a r)
+
+-- 1 and 14
+pub unready-keeping : (r : Replica) (n : ℕ) → ready r n ≡ false → keeping (sums r) (unready r n) ≡ true
+unready-keeping r n e =
+    pick-cases (λ (a : ℕ). keeping (sums r) a ≡ true) (roomy n && fit r)
+    (λ t. rw (unsummed (decide (sums r)) (and-both (roomy n) (fit r) t)))
+    (λ t. refl)
+  where
+    unsummed : (sums r ≡ true) ⊎ (sums r ≡ false) → (roomy n ≡ true) × (fit r ≡ true) → sums r ≡ false
+    unsummed (inr f) b = f
+    unsummed (inl u) b = absurd (clash (and-make (b .0) (and-make (b .1) u)) e)
+
+pub unready-some : (r : Replica) (n : ℕ) → unready r n ≡ 0 → ⊥
+unready-some r n = pick-both (λ (a : ℕ). a ≡ 0 → ⊥) (roomy n && fit r) (λ z. omega arith) (λ z. omega arith)
 
 -- the sender is another member
 pub record Peer (sc : Scalars) (peer : ℕ) : Type 0 where
@@ -49,7 +78,7 @@ peer-facts sc peer e =
 
 -- the record is fit
 pub ready-fit : (r : Replica) (n : ℕ) → ready r n ≡ true → fit r ≡ true
-ready-fit r n e = and-right (roomy n) _ e
+ready-fit r n e = and-left (fit r) _ (and-right (roomy n) _ e)
 
 -- ── Prepare ──
 -- the window with the trigger's slot in it
@@ -81,13 +110,13 @@ pub prepareStep-ways : (P : Outcome → Type 0) (r : Replica) (n peer trigger ba
     → (Prepares r peer trigger ballot → P (prepared r peer trigger ballot)) → P (prepareStep r n peer trigger ballot)
 unfolding prepareStep prepareOn
 prepareStep-ways P r n peer trigger ballot k on =
-    pick-cases P (not (ready r n)) (λ a. k 1 (omega arith))
-    (λ a. pick-cases P (not (isPeer (r .sc) peer)) (λ b. k 2 (omega arith))
-    (λ b. pick-cases P (not (owns ballot peer)) (λ c. k 3 (omega arith))
-    (λ c. pick-cases P (ltb trigger (r .sc .start)) (λ d. k 0 (omega arith))
-    (λ d. pick-cases P (ltb ballot (r .sc .«bal_max_seen»)) (λ e. k 0 (omega arith))
-    (λ e. pick-cases P (leb (r .sc .start + 64) trigger) (λ f. k 5 (omega arith))
-    (λ f. pick-cases P (any (λ i. ltb ballot (slotAt (prepareWindow r trigger) i .ballot)) (place (r .sc) trigger) (prepareEnd r trigger)) (λ g. k 6 (omega arith))
+    pick-cases P (not (ready r n)) (λ a. k (unready r n) (unready-keeping r n (not-true _ a)))
+    (λ a. pick-cases P (not (isPeer (r .sc) peer)) (λ b. k 2 refl)
+    (λ b. pick-cases P (not (owns ballot peer)) (λ c. k 3 refl)
+    (λ c. pick-cases P (ltb trigger (r .sc .start)) (λ d. k 0 refl)
+    (λ d. pick-cases P (ltb ballot (r .sc .«bal_max_seen»)) (λ e. k 0 refl)
+    (λ e. pick-cases P (leb (r .sc .start + 64) trigger) (λ f. k 5 refl)
+    (λ f. pick-cases P (any (λ i. ltb ballot (slotAt (prepareWindow r trigger) i .ballot)) (place (r .sc) trigger) (prepareEnd r trigger)) (λ g. k 6 refl)
     (λ g. on
     (record {
       fits = ready-fit r n (not-false _ a);
@@ -126,16 +155,16 @@ pub acceptStep-ways : (P : Outcome → Type 0) (r : Replica) (n peer slot ballot
     → (Accepts r peer slot ballot b → P (accepted r peer slot ballot b)) → P (acceptStep r n peer slot ballot b)
 unfolding acceptStep settled
 acceptStep-ways P r n peer slot ballot b k on =
-    pick-cases P (not (ready r n)) (λ x. k 1 (omega arith))
-    (λ x. pick-cases P (not (isPeer (r .sc) peer)) (λ c. k 2 (omega arith))
-    (λ c. pick-cases P (not (owns ballot peer)) (λ d. k 3 (omega arith))
-    (λ d. pick-cases P (not (isBatch (b .id) (b .count))) (λ e. k 10 (omega arith))
-    (λ e. pick-cases P (ltb slot (r .sc .start)) (λ f. k 0 (omega arith))
-    (λ f. pick-cases P (ltb ballot (r .sc .«bal_max_seen»)) (λ g. k 0 (omega arith))
-    (λ g. pick-cases P (leb (r .sc .start + 64) slot) (λ h. k 5 (omega arith))
+    pick-cases P (not (ready r n)) (λ x. k (unready r n) (unready-keeping r n (not-true _ x)))
+    (λ x. pick-cases P (not (isPeer (r .sc) peer)) (λ c. k 2 refl)
+    (λ c. pick-cases P (not (owns ballot peer)) (λ d. k 3 refl)
+    (λ d. pick-cases P (not (isBatch (b .id) (b .count))) (λ e. k 10 refl)
+    (λ e. pick-cases P (ltb slot (r .sc .start)) (λ f. k 0 refl)
+    (λ f. pick-cases P (ltb ballot (r .sc .«bal_max_seen»)) (λ g. k 0 refl)
+    (λ g. pick-cases P (leb (r .sc .start + 64) slot) (λ h. k 5 refl)
     (λ h. decideAccept-ways (λ (d : Decided). P (settled r (acceptWindow r slot) (place (r .sc) slot) slot d)) (r .sc) (slotAt (acceptWindow r slot) (place (r .sc) slot)) peer slot ballot (clean b)
-    (k 6 (omega arith))
-    (λ i. noting-ways P r true slot (clean b) _ _ refl (k 7 (omega arith))
+    (k 6 refl)
+    (λ i. noting-ways P r true slot (clean b) _ _ refl (k 7 refl)
     (λ j. on
     (record {
       fits = ready-fit r n (not-false _ x);
@@ -176,11 +205,11 @@ pub acceptReplyStep-ways : (P : Outcome → Type 0) (r : Replica) (n peer slot b
     → P (acceptReplyStep r n peer slot ballot)
 unfolding acceptReplyStep settled noting
 acceptReplyStep-ways P r n peer slot ballot k more full =
-    pick-cases P (not (ready r n)) (λ a. k 1 (omega arith))
-    (λ a. pick-cases P (not (isPeer (r .sc) peer)) (λ b. k 2 (omega arith))
-    (λ b. pick-cases P (ltb slot (r .sc .start)) (λ c. k 0 (omega arith))
-    (λ c. pick-cases P (not (eqb ballot (r .sc .«bal_prepared»))) (λ d. k 0 (omega arith))
-    (λ d. pick-cases P (leb (logEnd r) slot) (λ e. k 4 (omega arith))
+    pick-cases P (not (ready r n)) (λ a. k (unready r n) (unready-keeping r n (not-true _ a)))
+    (λ a. pick-cases P (not (isPeer (r .sc) peer)) (λ b. k 2 refl)
+    (λ b. pick-cases P (ltb slot (r .sc .start)) (λ c. k 0 refl)
+    (λ c. pick-cases P (not (eqb ballot (r .sc .«bal_prepared»))) (λ d. k 0 refl)
+    (λ d. pick-cases P (leb (logEnd r) slot) (λ e. k 4 refl)
     (λ e.
     let f : Acknowledges (r .sc) (repliedSlot r slot) peer ballot → Replies r peer slot ballot =
     λ g.
@@ -193,4 +222,4 @@ acceptReplyStep-ways P r n peer slot ballot k more full =
       counts = g;
     } in
     decideAcceptReply-ways (λ (d : Decided). P (settled r (r .window) (place (r .sc) slot) slot d)) (r .sc) (repliedSlot r slot) peer slot ballot
-    (subst P (sym (settled-silent r (place (r .sc) slot) slot)) (k 0 (omega arith))) (k 6 (omega arith)) (λ g q. more (f g) q) (λ g q. full (f g) q))))))
+    (subst P (sym (settled-silent r (place (r .sc) slot) slot)) (k 0 refl)) (k 6 refl) (λ g q. more (f g) q) (λ g q. full (f g) q))))))

@@ -27,11 +27,11 @@ use Rattle.window.specs.Window.{slotAt, putSlot, sweep}
 use Rattle.window.specs.Acts.{enterActs}
 use Rattle.replica.specs.declared.Replica.{Replica}
 use Rattle.replica.specs.Record.{Outcome, kept, noting, withWindow, place, number, logEnd}
-use Rattle.replica.specs.Fit.{fit, ready}
+use Rattle.replica.specs.Fit.{fit, ready, unready}
 use Rattle.replica.specs.Messages.{appended, appendActs, tabled, countedOn, votedOn, repliedOn, inRange, orKept, replyOn, cleanReply, prepareReplyStep}
 use Rattle.laws.specs.Leaves.{done, keysAfter, withKeys, noting-ways, noting-refused}
 use Rattle.laws.specs.OfDecide.{Hears, decideCount-ways}
-use Rattle.laws.specs.WaysMessages.{KeepsFor, Peer, peer-facts, ready-fit}
+use Rattle.laws.specs.WaysMessages.{KeepsFor, KeepsLowFor, unready-keeping, unready-some, Peer, peer-facts, ready-fit}
 
 -- "a voted value replaces only on a strictly larger ballot"
 abbrev pub adoptsVote : Slot → Reply → Bool
@@ -173,18 +173,18 @@ module _ (P : Outcome → Type 0) (r : Replica) (peer : ℕ) (m : Reply) where
       (λ v. noting-ways (λ (o : Outcome). P (orKept r o)) r′ t (m .slot) b _ _ refl seven (λ q. less (facts q) (eqb-true _ _ (not-false _ u)) v))
       (λ v x. noting-ways (λ (o : Outcome). P (orKept r o)) r′ t (m .slot) b _ _ refl seven (λ q. full (facts q) (eqb-true _ _ (not-false _ u)) v x)))))
 
-  pub replyOn-ways : KeepsFor (Unheard r m) P r → (Answers r m → awaitsPrepare (replySlot r m) (m .ballot) ≡ false → P (tabledOnly r peer m))
+  pub replyOn-ways : KeepsLowFor (Unheard r m) P r → (Answers r m → awaitsPrepare (replySlot r m) (m .ballot) ≡ false → P (tabledOnly r peer m))
       → (Answers r m → Heard r peer m → (m .slot ≡ m .endprep → ⊥) → P (heard r peer m))
       → (Answers r m → Heard r peer m → m .slot ≡ m .endprep → isFull r peer m ≡ false → P (counted r peer m))
       → (Answers r m → Heard r peer m → m .slot ≡ m .endprep → isFull r peer m ≡ true → tabledSc r peer m .«bal_prepared» ≤ m .ballot → P (entered r peer m))
       → P (replyOn r peer m)
   unfolding replyOn
   replyOn-ways k only one less full =
-      pick-cases P (not (eqb (m .ballot) (r .sc .«bal_prep_sent»))) (λ a. k 0 (omega arith) (λ z. inl (eqb-false _ _ (not-true _ a))))
-      (λ a. pick-cases P (not (leads (r .sc))) (λ b. refuse 4 (omega arith) (λ z. omega arith))
-      (λ b. pick-cases P (not (inRange r m)) (λ c. refuse 6 (omega arith) (λ z. omega arith))
-      (λ c. pick-cases P (not (slotAt (r .window) (place (r .sc) (m .trigger)) .leader .present)) (λ d. k 0 (omega arith) (λ z. inr (not-true _ d)))
-      (λ d. pick-cases P (leb (r .sc .start + 64) (m .slot)) (λ e. refuse 5 (omega arith) (λ z. omega arith))
+      pick-cases P (not (eqb (m .ballot) (r .sc .«bal_prep_sent»))) (λ a. k 0 refl (λ z. inl (eqb-false _ _ (not-true _ a))))
+      (λ a. pick-cases P (not (leads (r .sc))) (λ b. refuse 4 refl (λ z. omega arith))
+      (λ b. pick-cases P (not (inRange r m)) (λ c. refuse 6 refl (λ z. omega arith))
+      (λ c. pick-cases P (not (slotAt (r .window) (place (r .sc) (m .trigger)) .leader .present)) (λ d. k 0 refl (λ z. inr (not-true _ d)))
+      (λ d. pick-cases P (leb (r .sc .start + 64) (m .slot)) (λ e. refuse 5 refl (λ z. omega arith))
       (λ e.
       let g = not-false (inRange r m) c in
       let h = and-right (leb (m .trigger) (m .slot)) _ g in
@@ -200,9 +200,9 @@ module _ (P : Outcome → Type 0) (r : Replica) (peer : ℕ) (m : Reply) where
         high = leb-false _ _ e;
         booked = not-false _ d;
       } in
-      replied-ways (refuse 6 (omega arith) (λ z. omega arith)) (refuse 7 (omega arith) (λ z. omega arith)) (only f) (one f) (less f) (full f))))))
+      replied-ways (refuse 6 refl (λ z. omega arith)) (refuse 7 refl (λ z. omega arith)) (only f) (one f) (less f) (full f))))))
     where
-      refuse : (a : ℕ) → a ≤ 11 → (a ≡ 0 → ⊥) → P (kept a r)
+      refuse : (a : ℕ) → leb a 11 ≡ true → (a ≡ 0 → ⊥) → P (kept a r)
       refuse a h n = k a h (λ z. absurd (n z))
 
 -- a reply from another member: its vote is a batch, and its unused keys are dropped
@@ -216,8 +216,8 @@ pub prepareReplyStep-ways : (P : Outcome → Type 0) (r : Replica) (n peer : ℕ
     → (FromPeer r peer m → P (replyOn r peer (cleanReply m))) → P (prepareReplyStep r n peer m)
 unfolding prepareReplyStep
 prepareReplyStep-ways P r n peer m k on =
-    pick-cases P (not (ready r n)) (λ a. k 1 (omega arith) (λ z. absurd (omega arith)))
-    (λ a. pick-cases P (not (isPeer (r .sc) peer)) (λ b. k 2 (omega arith) (λ z. absurd (omega arith)))
-    (λ b. pick-cases P (m .voted && not (isBatch (m .vote .batch .id) (m .vote .batch .count))) (λ c. k 10 (omega arith) (λ z. absurd (omega arith)))
-    (λ c. pick-cases P (ltb (m .slot) (r .sc .start)) (λ d. k 0 (omega arith) (λ z. ltb-true _ _ d))
+    pick-cases P (not (ready r n)) (λ a. k (unready r n) (unready-keeping r n (not-true _ a)) (λ z. absurd (unready-some r n z)))
+    (λ a. pick-cases P (not (isPeer (r .sc) peer)) (λ b. k 2 refl (λ z. absurd (omega arith)))
+    (λ b. pick-cases P (m .voted && not (isBatch (m .vote .batch .id) (m .vote .batch .count))) (λ c. k 10 refl (λ z. absurd (omega arith)))
+    (λ c. pick-cases P (ltb (m .slot) (r .sc .start)) (λ d. k 0 refl (λ z. ltb-true _ _ d))
     (λ d. on (record { fits = ready-fit r n (not-false _ a); peer-is = peer-facts (r .sc) peer (not-false _ b); batch = c; low = ltb-false _ _ d })))))

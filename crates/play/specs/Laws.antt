@@ -12,38 +12,33 @@ use Rattle.replica.specs.declared.Replica.{Replica}
 use Rattle.replica.specs.declared.Made.{Made}
 use Rattle.replica.specs.declared.Done.{Done}
 use Rattle.replica.specs.Record.{kept, newReplica}
-use Rattle.replica.specs.Messages.{prepareStep, prepareReplyStep, acceptStep, acceptReplyStep}
-use Rattle.replica.specs.Leadership.{timeoutStep, commitNoticeStep}
-use Rattle.replica.specs.Durability.{loggedStep}
-use Rattle.replica.specs.Quorumread.{openReadStep, readReplyStep}
-use Rattle.replica.specs.Added.{offerStep, executedStep}
-use Rattle.replica.specs.Step.{step}
+use Rattle.replica.specs.Step.{callPrepare, callPrepareReply, callAccept, callAcceptReply, callCommitNotice, callTimeout, callLogged, callOffer, callExecuted, callOpenRead, callReadReply, step}
 use Rattle.trace.specs.declared.Record.{Record}
 use Rattle.trace.specs.Records.{keysOf, malformed, recordAt, sumRight}
 use Rattle.play.specs.Play.{batchOf, tallyOf, replyOf, doneOf, ownCallOf, callOf, renewed, played, playedAt}
 
 module _ (r : Replica) (n : ℕ) (d : Record) where
-  pub calls-prepare : d .kind ≡ 1 → step r n (callOf d) ≡ prepareStep r n (d .peer) (d .trigger) (d .ballot)
+  pub calls-prepare : d .kind ≡ 1 → step r n (callOf d) ≡ step r n (callPrepare (d .peer) (d .trigger) (d .ballot))
   unfolding callOf
   calls-prepare e = rw e
 
-  pub calls-reply : (m : Reply) → d .kind ≡ 2 → m ≡ replyOf d → step r n (callOf d) ≡ prepareReplyStep r n (d .peer) m
+  pub calls-reply : (m : Reply) → d .kind ≡ 2 → m ≡ replyOf d → step r n (callOf d) ≡ step r n (callPrepareReply (d .peer) m)
   unfolding callOf
   calls-reply m e f = rw (e, f)
 
-  pub calls-accept : (b : Batch) → d .kind ≡ 3 → b ≡ batchOf d → step r n (callOf d) ≡ acceptStep r n (d .peer) (d .slot) (d .ballot) b
+  pub calls-accept : (b : Batch) → d .kind ≡ 3 → b ≡ batchOf d → step r n (callOf d) ≡ step r n (callAccept (d .peer) (d .slot) (d .ballot) b)
   unfolding callOf
   calls-accept b e f = rw (e, f)
 
-  pub calls-accept-reply : d .kind ≡ 4 → step r n (callOf d) ≡ acceptReplyStep r n (d .peer) (d .slot) (d .ballot)
+  pub calls-accept-reply : d .kind ≡ 4 → step r n (callOf d) ≡ step r n (callAcceptReply (d .peer) (d .slot) (d .ballot))
   unfolding callOf
   calls-accept-reply e = rw e
 
-  pub calls-notice : d .kind ≡ 5 → step r n (callOf d) ≡ commitNoticeStep r n (d .peer) (d .ballot) (d .bar)
+  pub calls-notice : d .kind ≡ 5 → step r n (callOf d) ≡ step r n (callCommitNotice (d .peer) (d .ballot) (d .bar))
   unfolding callOf
   calls-notice e = rw e
 
-  pub calls-timeout : d .kind ≡ 6 → step r n (callOf d) ≡ timeoutStep r n (d .peer)
+  pub calls-timeout : d .kind ≡ 6 → step r n (callOf d) ≡ step r n (callTimeout (d .peer))
   unfolding callOf
   calls-timeout e = rw e
 
@@ -52,24 +47,24 @@ module _ (r : Replica) (n : ℕ) (d : Record) where
   unfolding callOf
   calls-own a b c e f g = rw (ne-eqb (d .kind) 1 a, ne-eqb (d .kind) 2 b, ne-eqb (d .kind) 3 c, ne-eqb (d .kind) 4 e, ne-eqb (d .kind) 5 f, ne-eqb (d .kind) 6 g)
 
-  pub calls-offer : (b : Batch) → d .kind ≡ 7 → b ≡ batchOf d → step r n (ownCallOf d) ≡ offerStep r n b
+  pub calls-offer : (b : Batch) → d .kind ≡ 7 → b ≡ batchOf d → step r n (ownCallOf d) ≡ step r n (callOffer b)
   unfolding ownCallOf
   calls-offer b e f = rw (e, f)
 
-  pub calls-logged : (x : Done) → d .kind ≡ 8 → x ≡ doneOf d → step r n (ownCallOf d) ≡ loggedStep r n x
+  pub calls-logged : (x : Done) → d .kind ≡ 8 → x ≡ doneOf d → step r n (ownCallOf d) ≡ step r n (callLogged x)
   unfolding ownCallOf
   calls-logged x e f = rw (e, f)
 
-  pub calls-executed : d .kind ≡ 9 → step r n (ownCallOf d) ≡ executedStep r n (d .slot)
+  pub calls-executed : d .kind ≡ 9 → step r n (ownCallOf d) ≡ step r n (callExecuted (d .slot))
   unfolding ownCallOf
   calls-executed e = rw e
 
-  pub calls-open : (keys : List ℕ) → d .kind ≡ 10 → keys ≡ keysOf d → step r n (ownCallOf d) ≡ openReadStep r n (d .slot) (d .count) keys
+  pub calls-open : (keys : List ℕ) → d .kind ≡ 10 → keys ≡ keysOf d → step r n (ownCallOf d) ≡ step r n (callOpenRead (d .slot) (d .count) keys)
   unfolding ownCallOf
   calls-open keys e f = rw (e, f)
 
   pub calls-read : (t : Tally) → (d .kind ≡ 7 → ⊥) → (d .kind ≡ 8 → ⊥) → (d .kind ≡ 9 → ⊥) → (d .kind ≡ 10 → ⊥) → t ≡ tallyOf d
-      → step r n (ownCallOf d) ≡ readReplyStep r n (d .peer) (d .slot) (eqb (d .sub) 1) t
+      → step r n (ownCallOf d) ≡ step r n (callReadReply (d .peer) (d .slot) (eqb (d .sub) 1) t)
   unfolding ownCallOf
   calls-read t a b c e f = rw (ne-eqb (d .kind) 7 a, ne-eqb (d .kind) 8 b, ne-eqb (d .kind) 9 c, ne-eqb (d .kind) 10 e, f)
 

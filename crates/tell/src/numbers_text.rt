@@ -1,9 +1,10 @@
-// `S` and 18 numbers; `P` member bar, for each entry of the peer accept table.
+// `S` and 18 numbers; `F` and the summary's two; `P` member bar, for each entry of the peer accept table.
 ghost use Prim.Native.Nat.{_<_};
 use crate::text::line;
 use crate::text::number_of;
 use decide::PeerBars;
 use decide::Scalars;
+use window::Summary;
 
 pub(crate) fn numbers(
     text: &mut [u8],
@@ -37,6 +38,14 @@ pub(crate) fn numbers(
         reads as u64,
     ];
     line(text, at, b'S', &row)
+}
+
+// The summary, asked as a host asks it.
+pub(crate) fn summary(text: &mut [u8], at: usize, known: Summary) -> usize {
+    let first = known.first_open();
+    let accepting = known.count_accepting();
+    let row = [first, accepting];
+    line(text, at, b'F', &row)
 }
 
 // The entry of member m; self's only once it has one.

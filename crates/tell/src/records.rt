@@ -3,6 +3,7 @@ use crate::actions_text::actions;
 use crate::keys_text::keys;
 use crate::numbers_text::bars;
 use crate::numbers_text::numbers;
+use crate::numbers_text::summary;
 use crate::reads_text::reads;
 use crate::slots_text::slots;
 use play::Run;
@@ -24,7 +25,9 @@ fn state(text: &mut [u8], at: usize, r: Replica) -> usize {
     let table = r.keys;
     let open = r.reads;
     let entries = r.bars;
-    let p = numbers(text, at, sc, window.len, table.count, open.count);
+    let known = r.summary;
+    let f = numbers(text, at, sc, window.len, table.count, open.count);
+    let p = summary(text, f, known);
     let i = bars(text, p, sc, entries);
     let k = slots(text, i, sc.start, window);
     let q = keys(text, k, table);

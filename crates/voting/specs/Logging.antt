@@ -16,11 +16,12 @@ use Rattle.replica.specs.declared.Replica.{Replica}
 use Rattle.replica.specs.declared.Done.{Done}
 use Rattle.replica.specs.declared.Entry.the-variants.{PrepareBal, AcceptData, CommitSlot as CommitEntry}
 use Rattle.replica.specs.Record.{Outcome, place}
+use Rattle.replica.specs.Fit.{sums}
 use Rattle.replica.specs.Messages.{orKept}
 use Rattle.replica.specs.Durability.{movedAccept, loggedOn, loggedStep}
 use Rattle.laws.specs.Leaves.{done, orKept-ways}
 use Rattle.laws.specs.OfDecide.{Acknowledges}
-use Rattle.laws.specs.WaysMessages.{KeepsFor}
+use Rattle.laws.specs.WaysMessages.{KeepsFor, keeping-low}
 use Rattle.laws.specs.WaysReply.{Unheard}
 use Rattle.laws.specs.WaysDurability.{logged, loggedAt, Logs, OwnReply, promiseActs, Completes, completes-silent, completes-more, completes-commit, completes-report, moved-ways, passed, loggedStep-ways, other-entry}
 use Rattle.voting.specs.Claims.{core, Claim, of}
@@ -65,5 +66,5 @@ module _ (P : Claim) (r : Replica) (d : Done) where
   logged-way room k h =
       loggedStep-ways (of P) r room d k (λ f n. h f .only (λ e o. absurd (n e o)))
       (λ f e o. reply-way P (logged r d) (r .sc .id) (ownAnswer r d) (λ (x : Outcome). of P (orKept r x)) (λ after acts p. p)
-      (λ a l u. orKept-ways (of P) r a (logged r d) (λ z. h f .only (λ _ _. u z)) (λ n. k a l (λ z. absurd (n z)))) (h f .own e o))
+      (λ a l u. orKept-ways (of P) r a (logged r d) (λ z. h f .only (λ _ _. u z)) (λ n. k a (keeping-low (sums r) a l) (λ z. absurd (n z)))) (h f .own e o))
       (λ f e n p. h f .promised e n) (λ f e. completed-way (h f) e) (λ f e at. h f .passes e)

@@ -62,11 +62,11 @@ unfolding newReplica
 member-good = good-new 2 3 0 0 refl
 
 pub accepts-taken : numbersIn (taken member accepts 0) ≡ 257 ∷ 7 ∷ 258 ∷ 8 ∷ []
-unfolding accepts newReplica fit fitScalars fitSlots fitReads fitSlot filled noting settled acceptStep decideAccept makeBatch noteKey noteKeys newKeys placeIn overfullIn scan
+unfolding accepts newReplica fit fitScalars fitSlots fitReads fitSlot filled noting settled acceptStep decideAccept makeBatch noteKey noteKeys newKeys placeIn overfullIn scan firstOpen
 accepts-taken = refl
 
 pub accepts-vote : numbersIn (voteOf (play member accepts) 0 ∷ []) ≡ 258 ∷ 8 ∷ []
-unfolding atPlace accepts newReplica fit fitScalars fitSlots fitReads fitSlot filled noting settled acceptStep decideAccept makeBatch noteKey noteKeys newKeys placeIn overfullIn scan
+unfolding atPlace accepts newReplica fit fitScalars fitSlots fitReads fitSlot filled noting settled acceptStep decideAccept makeBatch noteKey noteKeys newKeys placeIn overfullIn scan firstOpen
 accepts-vote = refl
 
 -- ── the paper's acceptor does not answer a Prepare at the largest ballot it has answered; ours does (Differences, the first run) ──

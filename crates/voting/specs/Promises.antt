@@ -28,11 +28,13 @@ use Rattle.window.specs.declared.Window.{Window}
 use Rattle.window.specs.Window.{slotAt, grown, lastUsed}
 use Rattle.window.specs.Acts.{promise}
 use Rattle.replica.specs.declared.Replica.{Replica}
-use Rattle.replica.specs.Record.{Outcome, kept, noting, settled, place, number}
+use Rattle.replica.specs.Record.{Outcome, kept, summed, noting, settled, place, number}
 use Rattle.replica.specs.Fit.{ready}
 use Rattle.replica.specs.Messages.{clean, downActs, prepareTop, prepareOn, prepareStep, acceptOn, acceptStep}
 use Rattle.replica.specs.Durability.{loggedOn}
 use Rattle.replica.specs.Added.{movedExec}
+use Rattle.replica.specs.AdmitLaws.{ready-facts}
+use Rattle.replica.specs.ActingLaws.{summed-kept}
 use Rattle.replica.specs.Step.{Call, callPrepare, callPrepareReply, callAccept, callAcceptReply, callCommitNotice, callTimeout, callLogged, callOffer, callExecuted, callOpenRead, callReadReply, step}
 use Rattle.laws.specs.WaysMessages.{prepareEnd, prepared, prepareStep-ways, accepted, acceptStep-ways, acceptReplyStep-ways}
 use Rattle.laws.specs.WaysLeadership.{timeoutStep-ways, commitNoticeStep-ways, leads-up}
@@ -121,14 +123,20 @@ prepareHigh r trigger ballot =
 module _ (r : Replica) (room peer trigger ballot : ℕ) (f : ready r room ≡ true) (p : isPeer (r .sc) peer ≡ true) (o : owns ballot peer ≡ true)
     (l : r .sc .start ≤ trigger) (u : trigger < r .sc .start + 64) where
   -- the three ways, with no fourth
-  pub prepare-told : step r room (callPrepare peer trigger ballot)
+  prepare-does : prepareStep r room peer trigger ballot
       ≡ pick (ltb ballot (r .sc .«bal_max_seen»)) (kept 0 r) (pick (prepareHigh r trigger ballot) (kept 6 r) (prepared r peer trigger ballot))
   unfolding prepareStep prepareOn
-  prepare-told = rw (f, p, o, le-ltb trigger (r .sc .start) l, lt-leb (r .sc .start + 64) trigger u)
+  prepare-does = rw (f, p, o, le-ltb trigger (r .sc .start) l, lt-leb (r .sc .start + 64) trigger u)
+
+  pub prepare-told : step r room (callPrepare peer trigger ballot)
+      ≡ summed (pick (ltb ballot (r .sc .«bal_max_seen»)) (kept 0 r) (pick (prepareHigh r trigger ballot) (kept 6 r) (prepared r peer trigger ballot)))
+  prepare-told = ap summed prepare-does
 
   -- below what was seen it changes nothing and says nothing
   pub prepare-below : ballot < r .sc .«bal_max_seen» → step r room (callPrepare peer trigger ballot) ≡ kept 0 r
-  prepare-below h = prepare-told ∙ rw (lt-ltb ballot (r .sc .«bal_max_seen») h)
+  prepare-below h =
+      let e : prepareStep r room peer trigger ballot ≡ kept 0 r = prepare-does ∙ rw (lt-ltb ballot (r .sc .«bal_max_seen») h) in
+      ap summed e ∙ summed-kept 0 r (ready-facts r room f .sum)
 
   -- it acts: answer 0, and the entry of its trigger slot is to be written
   abbrev pub PrepareActs : Type 0
@@ -156,7 +164,8 @@ module _ (r : Replica) (room peer trigger ballot : ℕ) (f : ready r room ≡ tr
 
       then : May → PrepareActs
       then (x, y) =
-          let e : step r room (callPrepare peer trigger ballot) ≡ prepared r peer trigger ballot = prepare-told ∙ rw (le-ltb ballot (r .sc .«bal_max_seen») x, y) in
+          let d : prepareStep r room peer trigger ballot ≡ prepared r peer trigger ballot = prepare-does ∙ rw (le-ltb ballot (r .sc .«bal_max_seen») x, y) in
+          let e : step r room (callPrepare peer trigger ballot) ≡ summed (prepared r peer trigger ballot) = ap summed d in
           (ap (λ (z : Outcome). z .answer) e, subst (λ (z : Outcome). promise trigger ballot ∈ z .actions) (sym e) entry-in)
 
 -- ── 2.2: an Accept in the window from the ballot's owner ──
@@ -186,13 +195,20 @@ module _ (r : Replica) (room peer slot ballot : ℕ) (b : Batch) (f : ready r ro
       (acceptHigh r slot ballot) (λ t. rw t) (λ t. rw t)
 
   -- the four ways, with no fifth
-  pub accept-told : step r room (callAccept peer slot ballot b)
+  accept-does : acceptStep r room peer slot ballot b
       ≡ pick (ltb ballot (r .sc .«bal_max_seen»)) (kept 0 r) (pick (acceptHigh r slot ballot) (kept 6 r) (pick (overfull (r .keys) (clean b)) (kept 7 r) (accepted r peer slot ballot b)))
   unfolding acceptStep
-  accept-told = rw (f, p, o, q, le-ltb slot (r .sc .start) l, lt-leb (r .sc .start + 64) slot u, accept-on)
+  accept-does = rw (f, p, o, q, le-ltb slot (r .sc .start) l, lt-leb (r .sc .start + 64) slot u, accept-on)
+
+  pub accept-told : step r room (callAccept peer slot ballot b)
+      ≡ summed
+      (pick (ltb ballot (r .sc .«bal_max_seen»)) (kept 0 r) (pick (acceptHigh r slot ballot) (kept 6 r) (pick (overfull (r .keys) (clean b)) (kept 7 r) (accepted r peer slot ballot b))))
+  accept-told = ap summed accept-does
 
   pub accept-below : ballot < r .sc .«bal_max_seen» → step r room (callAccept peer slot ballot b) ≡ kept 0 r
-  accept-below h = accept-told ∙ rw (lt-ltb ballot (r .sc .«bal_max_seen») h)
+  accept-below h =
+      let e : acceptStep r room peer slot ballot b ≡ kept 0 r = accept-does ∙ rw (lt-ltb ballot (r .sc .«bal_max_seen») h) in
+      ap summed e ∙ summed-kept 0 r (ready-facts r room f .sum)
 
   -- it acts: answer 0, and its entry is to be written
   abbrev pub AcceptActs : Type 0
@@ -211,7 +227,8 @@ module _ (r : Replica) (room peer slot ballot : ℕ) (b : Batch) (f : ready r ro
 
   accept-then : MayAccept → AcceptActs
   accept-then (x, y, z) =
-      let e : step r room (callAccept peer slot ballot b) ≡ accepted r peer slot ballot b = accept-told ∙ rw (le-ltb ballot (r .sc .«bal_max_seen») x, y, z) in
+      let d : acceptStep r room peer slot ballot b ≡ accepted r peer slot ballot b = accept-does ∙ rw (le-ltb ballot (r .sc .«bal_max_seen») x, y, z) in
+      let e : step r room (callAccept peer slot ballot b) ≡ summed (accepted r peer slot ballot b) = ap summed d in
       (ap (λ (w : Outcome). w .answer) e, subst (λ (w : Outcome). takenEntry slot ballot b ∈ w .actions) (sym e) (accept-entry-in (r .sc) slot ballot b))
 
   pub accept-iff : AcceptActs ↔ MayAccept

@@ -35,7 +35,10 @@ use Rattle.replica.specs.Messages.{clean, cleanReply, prepareBook}
 use Rattle.replica.specs.Durability.{passStop, loggedOn}
 use Rattle.replica.specs.Added.{movedExec}
 use Rattle.replica.specs.Step.{Call, callPrepare, callPrepareReply, callAccept, callAcceptReply, callCommitNotice, callTimeout, callLogged, callOffer, callExecuted, callOpenRead, callReadReply, step}
+use Rattle.replica.specs.ActingLaws.{Summed}
 use Rattle.laws.specs.OfFit.{fit-facts}
+use Rattle.laws.specs.Theorems.{never-fourteen}
+use Rattle.laws.specs.Summaries.{sums-summed, summed-sums, new-sums, summed-stays}
 use Rattle.laws.specs.Counts.{heard-long, counted-long}
 use Rattle.laws.specs.WaysMessages.{Peer, Prepares, prepareEnd, prepared, prepareStep-ways, Accepts, accepted, acceptStep-ways, acceptReplyStep-ways}
 use Rattle.laws.specs.WaysReply.{replyWindow, replySlot, heardWindow, countedWindow, Answers, reply-place}
@@ -326,3 +329,18 @@ module _ (r : Replica) (g : Good (r .sc) (r .window)) (room peer slot ballot : �
       → AcceptActs r room peer slot ballot b f p o q l u ↔ (r .sc .«bal_max_seen» ≤ ballot)
   reached-accept-iff b q k =
       (λ a. accept-iff r room peer slot ballot b f p o q l u .0 a .0, λ s. accept-iff r room peer slot ballot b f p o q l u .1 (s, never-high-accept r slot ballot g u s, k))
+
+-- 02, Wish 1: of every replica that calls lead to from a new one the summary is the walk's
+play-summed : (r : Replica) (h : List Lent) → Summed r → Summed (play r h)
+play-summed r [] s = s
+play-summed r (c ∷ h) s = play-summed (told r c .replica) h (summed-stays r (c .room) (c .call) s)
+
+pub reached-summed : (id group start options : ℕ) (h : List Lent) → Summed (play (newReplica id group start options .replica) h)
+reached-summed id group start options h =
+    play-summed (newReplica id group start options .replica) h (sums-summed (newReplica id group start options .replica) (new-sums id group start options))
+
+-- so 14 is never given to it
+pub reached-never-fourteen : (id group start options : ℕ) (h : List Lent) (n : ℕ) (c : Call) → step (play (newReplica id group start options .replica) h) n c .answer ≡ 14 → ⊥
+reached-never-fourteen id group start options h n c =
+    let r = play (newReplica id group start options .replica) h in
+    never-fourteen r n c (summed-sums r (reached-summed id group start options h))

@@ -17,10 +17,11 @@ use Rattle.window.specs.Window.{slotAt, sweep}
 use Rattle.window.specs.Acts.{enterActs}
 use Rattle.replica.specs.declared.Replica.{Replica}
 use Rattle.replica.specs.Record.{Outcome, place, number}
+use Rattle.replica.specs.Fit.{sums}
 use Rattle.replica.specs.Messages.{appendActs, replyOn, cleanReply, prepareReplyStep}
 use Rattle.laws.specs.Leaves.{done}
 use Rattle.laws.specs.OfScalars.{fallen-ways}
-use Rattle.laws.specs.WaysMessages.{KeepsFor}
+use Rattle.laws.specs.WaysMessages.{KeepsFor, KeepsLowFor, keeping-low}
 use Rattle.laws.specs.WaysReply.{replyWindow, replySlot, heardWindow, countedWindow, Answers, Heard, Unheard, FromPeer, isFull, replyOn-ways, prepareReplyStep-ways}
 use Rattle.voting.specs.Claims.{core, Claim, of, fallen-way}
 
@@ -45,7 +46,7 @@ module _ (P : Claim) (r : Replica) (peer : ℕ) (m : Reply) where
 
   -- whatever the outcome is wrapped in
   pub reply-way : (Q : Outcome → Type 0) → ((after : Replica) (acts : List Act) → of P (done after acts) → Q (done after acts))
-      → KeepsFor (Unheard r m) Q r → ReplyWays → Q (replyOn r peer m)
+      → KeepsLowFor (Unheard r m) Q r → ReplyWays → Q (replyOn r peer m)
   unfolding of
   reply-way Q on k h =
       replyOn-ways Q r peer m k (λ f t. on _ _ (tabled (h .passed f t))) (λ f t e. on _ _ (tabled (h .heard f t))) (λ f t e q. on _ _ (tabled (h .counted f t)))
@@ -62,7 +63,7 @@ pub prepare-reply-way : (P : Claim) (r : Replica) (room peer : ℕ) (m : Reply) 
     → (FromPeer r peer m → ReplyWays P r peer (cleanReply m)) → of P (prepareReplyStep r room peer m)
 prepare-reply-way P r room peer m k h =
     prepareReplyStep-ways (of P) r room peer m (λ a l u. k a l (λ z. inl (u z)))
-    (λ f. reply-way P r peer (cleanReply m) (of P) (λ after acts p. p) (λ a l u. k a l (λ z. inr (u z))) (h f))
+    (λ f. reply-way P r peer (cleanReply m) (of P) (λ after acts p. p) (λ a l u. k a (keeping-low (sums r) a l) (λ z. inr (u z))) (h f))
 
 pub map-reply : (P Q : Claim) (r : Replica) (peer : ℕ) (m : Reply) → ((a : ℕ) (sc : Scalars) (w : Window) (acts : List Act) → P a sc w acts → Q a sc w acts)
     → ReplyWays P r peer m → ReplyWays Q r peer m

@@ -1,4 +1,4 @@
-use Rattle.replica.specs.ActingLaws.{told}
+use Rattle.replica.specs.ActingLaws.{same-told}
 use Rattle.play.specs.Laws.{calls-prepare, calls-reply, calls-accept, calls-accept-reply, calls-notice, calls-timeout, calls-own}
 use borrow.Author.Needs.{needs}
 use Rattle.play.proofs.calls.call.Statement.{statement}
@@ -15,7 +15,7 @@ returns c =
     let h = c .before .before in
     let t = h .before .before in
     let a = t .before .before .before .args in
-    told (calls-prepare (a .r) _ (a .rec) (t .if1 .taken)) (h .prepare .ensures)
+    same-told (calls-prepare (a .r) _ (a .rec) (t .if1 .taken)) (h .prepare .ensures)
 
 reply-of-requires : tie.Need-reply-of-requires
 reply-of-requires c κs = search needs
@@ -33,7 +33,7 @@ returns-2 c =
     let t = b .before in
     let e1 = t .before .before in
     let a = e1 .before .before .before .args in
-    told (calls-reply (a .r) _ (a .rec) _ (t .if2 .taken) (b .reply-of .ensures)) (h .prepare-reply .ensures)
+    same-told (calls-reply (a .r) _ (a .rec) _ (t .if2 .taken) (b .reply-of .ensures)) (h .prepare-reply .ensures)
 
 batch-of-requires : tie.Need-batch-of-requires
 batch-of-requires c κs = search needs
@@ -52,7 +52,7 @@ returns-3 c =
     let e2 = t .before .before in
     let e1 = e2 .before .before in
     let a = e1 .before .before .before .args in
-    told (calls-accept (a .r) _ (a .rec) _ (t .if3 .taken) (b .batch-of .ensures)) (h .accept .ensures)
+    same-told (calls-accept (a .r) _ (a .rec) _ (t .if3 .taken) (b .batch-of .ensures)) (h .accept .ensures)
 
 accept-reply-requires : tie.Need-accept-reply-requires
 accept-reply-requires c κs = search needs
@@ -68,7 +68,7 @@ returns-4 c =
     let e2 = e3 .before .before in
     let e1 = e2 .before .before in
     let a = e1 .before .before .before .args in
-    told (calls-accept-reply (a .r) _ (a .rec) (t .if4 .taken)) (h .accept-reply .ensures)
+    same-told (calls-accept-reply (a .r) _ (a .rec) (t .if4 .taken)) (h .accept-reply .ensures)
 
 commit-notice-requires : tie.Need-commit-notice-requires
 commit-notice-requires c κs = search needs
@@ -85,7 +85,7 @@ returns-5 c =
     let e2 = e3 .before .before in
     let e1 = e2 .before .before in
     let a = e1 .before .before .before .args in
-    told (calls-notice (a .r) _ (a .rec) (t .if5 .taken)) (h .commit-notice .ensures)
+    same-told (calls-notice (a .r) _ (a .rec) (t .if5 .taken)) (h .commit-notice .ensures)
 
 timeout-requires : tie.Need-timeout-requires
 timeout-requires c κs = search needs
@@ -103,7 +103,7 @@ returns-6 c =
     let e2 = e3 .before .before in
     let e1 = e2 .before .before in
     let a = e1 .before .before .before .args in
-    told (calls-timeout (a .r) _ (a .rec) (t .if6 .taken)) (h .timeout .ensures)
+    same-told (calls-timeout (a .r) _ (a .rec) (t .if6 .taken)) (h .timeout .ensures)
 
 call-own-requires : tie.Need-call-own-requires
 call-own-requires c κs = search needs
@@ -121,7 +121,7 @@ returns-7 c =
     let e2 = e3 .before .before in
     let e1 = e2 .before .before in
     let a = e1 .before .before .before .args in
-    told (calls-own (a .r) _ (a .rec) (e1 .if1 .left) (e2 .if2 .left) (e3 .if3 .left) (e4 .if4 .left) (e5 .if5 .left) (e6 .if6 .left)) (h .call-own .ensures)
+    same-told (calls-own (a .r) _ (a .rec) (e1 .if1 .left) (e2 .if2 .left) (e3 .if3 .left) (e4 .if4 .left) (e5 .if5 .left) (e6 .if6 .left)) (h .call-own .ensures)
 
 pub call-spec : {M : Type 1} → statement M
 call-spec =

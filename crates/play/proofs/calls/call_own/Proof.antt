@@ -1,4 +1,4 @@
-use Rattle.replica.specs.ActingLaws.{told}
+use Rattle.replica.specs.ActingLaws.{same-told}
 use Rattle.play.specs.Laws.{calls-offer, calls-logged, calls-executed, calls-open, calls-read}
 use borrow.Author.Needs.{needs}
 use Rattle.play.proofs.calls.call_own.Statement.{statement}
@@ -19,7 +19,7 @@ returns c =
     let b = h .before .before in
     let t = b .before in
     let a = t .before .before .before .args in
-    told (calls-offer (a .r) _ (a .rec) _ (t .if1 .taken) (b .batch-of .ensures)) (h .offer .ensures)
+    same-told (calls-offer (a .r) _ (a .rec) _ (t .if1 .taken) (b .batch-of .ensures)) (h .offer .ensures)
 
 done-of-requires : tie.Need-done-of-requires
 done-of-requires c κs = search needs
@@ -37,7 +37,7 @@ returns-2 c =
     let t = b .before in
     let e1 = t .before .before in
     let a = e1 .before .before .before .args in
-    told (calls-logged (a .r) _ (a .rec) _ (t .if2 .taken) (b .done-of .ensures)) (h .logged .ensures)
+    same-told (calls-logged (a .r) _ (a .rec) _ (t .if2 .taken) (b .done-of .ensures)) (h .logged .ensures)
 
 executed-requires : tie.Need-executed-requires
 executed-requires c κs = search needs
@@ -52,7 +52,7 @@ returns-3 c =
     let e2 = t .before .before in
     let e1 = e2 .before .before in
     let a = e1 .before .before .before .args in
-    told (calls-executed (a .r) _ (a .rec) (t .if3 .taken)) (h .executed .ensures)
+    same-told (calls-executed (a .r) _ (a .rec) (t .if3 .taken)) (h .executed .ensures)
 
 keys-of-requires : tie.Need-keys-of-requires
 keys-of-requires c κs = search needs
@@ -72,7 +72,7 @@ returns-4 c =
     let e2 = e3 .before .before in
     let e1 = e2 .before .before in
     let a = e1 .before .before .before .args in
-    told (calls-open (a .r) _ (a .rec) _ (t .if4 .taken) (b .keys-of .ensures)) (h .open-read .ensures)
+    same-told (calls-open (a .r) _ (a .rec) _ (t .if4 .taken) (b .keys-of .ensures)) (h .open-read .ensures)
 
 tally-of-requires : tie.Need-tally-of-requires
 tally-of-requires c κs = search needs
@@ -92,7 +92,7 @@ returns-5 c =
     let e2 = e3 .before .before in
     let e1 = e2 .before .before in
     let a = e1 .before .before .before .args in
-    told (calls-read (a .r) _ (a .rec) _ (e1 .if1 .left) (e2 .if2 .left) (e3 .if3 .left) (e4 .if4 .left) (b .tally-of .ensures)) (h .read-reply .ensures)
+    same-told (calls-read (a .r) _ (a .rec) _ (e1 .if1 .left) (e2 .if2 .left) (e3 .if3 .left) (e4 .if4 .left) (b .tally-of .ensures)) (h .read-reply .ensures)
 
 pub call-own-spec : {M : Type 1} → statement M
 call-own-spec =

@@ -1,4 +1,4 @@
-use Rattle.replica.specs.ActingLaws.{refuse, told}
+use Rattle.replica.specs.ActingLaws.{kept-told, same-told}
 use Rattle.reader.specs.Laws.{step-reads}
 use Rattle.play.specs.Laws.{plays-at, plays-malformed, plays-new, plays-call}
 use borrow.Author.Needs.{needs}
@@ -24,8 +24,8 @@ returns c =
     let s = m .before in
     let d = s .before .before in
     let a = d .before .before .before .args in
-    told (plays-at (a .r) _ _ (a .at) _ _ (step-reads _ (a .at) _ (d .read-at .ensures)) (s .sum-is-right .ensures))
-    (refuse 13 (a .r) (c .kept .ensures) (plays-malformed (a .r) _ _ _ _ (m .is-malformed .ensures) (t .if1 .taken)))
+    same-told (plays-at (a .r) _ _ (a .at) _ _ (step-reads _ (a .at) _ (d .read-at .ensures)) (s .sum-is-right .ensures))
+    (kept-told 13 (a .r) (c .kept .ensures) (plays-malformed (a .r) _ _ _ _ (m .is-malformed .ensures) (t .if1 .taken)))
 
 renew-requires : tie.Need-renew-requires
 renew-requires c κs = search needs
@@ -42,8 +42,8 @@ returns-2 c =
     let s = m .before in
     let d = s .before .before in
     let a = d .before .before .before .args in
-    told (plays-at (a .r) _ _ (a .at) _ _ (step-reads _ (a .at) _ (d .read-at .ensures)) (s .sum-is-right .ensures))
-    (told (plays-new (a .r) _ _ _ _ (m .is-malformed .ensures) (e .if1 .left) (t .if2 .taken)) (h .renew .ensures))
+    same-told (plays-at (a .r) _ _ (a .at) _ _ (step-reads _ (a .at) _ (d .read-at .ensures)) (s .sum-is-right .ensures))
+    (same-told (plays-new (a .r) _ _ _ _ (m .is-malformed .ensures) (e .if1 .left) (t .if2 .taken)) (h .renew .ensures))
 
 call-requires : tie.Need-call-requires
 call-requires c κs = search needs
@@ -60,8 +60,8 @@ returns-3 c =
     let s = m .before in
     let d = s .before .before in
     let a = d .before .before .before .args in
-    told (plays-at (a .r) _ _ (a .at) _ _ (step-reads _ (a .at) _ (d .read-at .ensures)) (s .sum-is-right .ensures))
-    (told (plays-call (a .r) _ _ _ _ (m .is-malformed .ensures) (e .if1 .left) (t .if2 .left)) (h .call .ensures))
+    same-told (plays-at (a .r) _ _ (a .at) _ _ (step-reads _ (a .at) _ (d .read-at .ensures)) (s .sum-is-right .ensures))
+    (same-told (plays-call (a .r) _ _ _ _ (m .is-malformed .ensures) (e .if1 .left) (t .if2 .left)) (h .call .ensures))
 
 pub play-at-spec : {M : Type 1} → statement M
 play-at-spec =
