@@ -159,6 +159,7 @@ const ACTION: &str = "kind member slot trigger endprep ballot voted_ballot batch
     key_1 key_2 key_3 key_4 key_5 key_6 key_7 key_8";
 const SCALARS: &str = "id group quorum start urgent disallow leader bal_prep_sent bal_prepared \
     bal_max_seen accept_bar commit_bar exec_bar wal_offset peer_accept_max slots keys reads";
+const SUMMARY: &str = "first_not_committed accepting_from_commit_bar";
 const SLOT: &str = "slot ballot status external wal_offset \
     batch_id key_count key_1 key_2 key_3 key_4 key_5 key_6 key_7 key_8 \
     voted_ballot voted_batch_id voted_key_count voted_key_1 voted_key_2 voted_key_3 voted_key_4 \
@@ -173,6 +174,7 @@ fn named_differences(ours: &str, theirs: &str) -> String {
     let (letter, names) = match ours[0] {
         "A" => (1, ACTION),
         "S" => (1, SCALARS),
+        "F" => (1, SUMMARY),
         "I" => (1, SLOT),
         "P" | "K" | "R" | "Z" => return String::new(),
         _ => (0, ANSWER),
@@ -260,5 +262,14 @@ mod tests {
         let report = found(&other).report();
         assert!(report.contains("record 3 differs: LogDone { entry: PrepareBal, slot: 0"));
         assert!(report.contains("actions is 2 in the Rust, 1 in the other"), "{report}");
+    }
+
+    #[test]
+    fn the_report_names_both_numbers_of_the_summary() {
+        let report = found(&told().replacen("F 0 1", "F 1 0", 1)).report();
+        assert!(report.contains("record 3 differs: LogDone"), "{report}");
+        let named = "first_not_committed is 0 in the Rust, 1 in the other\n\
+            accepting_from_commit_bar is 1 in the Rust, 0 in the other\n";
+        assert!(report.ends_with(named), "{report}");
     }
 }

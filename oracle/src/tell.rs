@@ -3,7 +3,7 @@
 use crate::action::Action;
 use crate::batch::Batch;
 use crate::host::Replica;
-use crate::host::multipaxos::{Instance, Knowledge, QuorumReadBookkeeping, ReqBatch};
+use crate::host::multipaxos::{Instance, Knowledge, QuorumReadBookkeeping, ReqBatch, Status};
 use crate::server::{ApiRequest, Command};
 use crate::session::Outcome;
 
@@ -58,6 +58,7 @@ impl Text {
 
     pub fn state(&mut self, replica: &Replica) {
         self.scalars(replica);
+        self.summary(replica);
         self.peers(replica);
         for (place, instance) in replica.insts.iter().enumerate() {
             self.slot(replica.start_slot + place, instance);
@@ -88,6 +89,18 @@ impl Text {
             replica.highest_slot.len() as u64,
             replica.quorum_reads.len() as u64,
         ]);
+        self.end_line();
+    }
+
+    /// 02, Wish 1: "the first slot not committed", and how many "at or above commit_bar have status
+    /// Accepting". The Rust keeps neither, so this is "the full walk".
+    fn summary(&mut self, replica: &Replica) {
+        let committed = replica.insts.iter().take_while(|slot| slot.status >= Status::Committed);
+        let first = replica.start_slot + committed.count();
+        let from_commit_bar = replica.insts.iter().skip(replica.commit_bar - replica.start_slot);
+        let accepting = from_commit_bar.filter(|slot| slot.status == Status::Accepting).count();
+        self.bytes.push(b'F');
+        self.numbers(&[first as u64, accepting as u64]);
         self.end_line();
     }
 

@@ -132,7 +132,7 @@ mod departing {
                 let found = wrong(&other);
                 if !FIRST.contains(&number) {
                     assert_eq!(found, (TOLD_HERE, number), "{line}");
-                } else if matches!(letter, b'S' | b'P') {
+                } else if matches!(letter, b'S' | b'F' | b'P') {
                     assert_eq!(found, (MORE_THAN_READS, number), "{line}");
                 }
             }

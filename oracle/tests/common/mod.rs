@@ -87,6 +87,11 @@ impl Member {
         self.rows("S").remove(0)
     }
 
+    /// The line after the scalars, which must be the summary's.
+    pub fn summary(&self) -> String {
+        self.told().lines().nth(1).expect("a second line").to_string()
+    }
+
     pub fn peer_bar(&self, member: u64) -> Option<u64> {
         self.rows("P").iter().find(|row| row[0] == member).map(|row| row[1])
     }
@@ -96,6 +101,7 @@ impl Member {
     }
 }
 
+pub const START: usize = 3;
 pub const LEADER: usize = 6;
 pub const BAL_PREP_SENT: usize = 7;
 pub const BAL_PREPARED: usize = 8;
