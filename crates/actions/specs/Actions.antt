@@ -55,11 +55,11 @@ row kind member slot trigger endprep ballot voted batch bar count keys =
     kind ∷ member ∷ slot ∷ trigger ∷ endprep ∷ ballot ∷ voted ∷ batch ∷ bar ∷ count ∷ eightOf keys
 
 -- 01: "Kinds 1 to 13: PrepareBal, AcceptData, CommitSlot, Prepare, PrepareReply, Accept, AcceptReply, CommitNotice, heartbeat, status up,
--- status down, Execute, read answer."
+-- status down, Execute, read answer." 02, Wish 5: "Every log action, CommitSlot too (there, the slot's ballot), .. now carries its ballot"
 abbrev pub numbersOf : Action → List ℕ → List ℕ
 numbersOf (PrepareBal p) keys = row 1 0 (p .slot) 0 0 (p .ballot) 0 0 0 0 keys
 numbersOf (AcceptData p) keys = row 2 0 (p .slot) 0 0 (p .ballot) 0 (p .batch) 0 (p .count) keys
-numbersOf (CommitSlot p) keys = row 3 0 (p .slot) 0 0 0 0 0 0 0 keys
+numbersOf (CommitSlot p) keys = row 3 0 (p .slot) 0 0 (p .ballot) 0 0 0 0 keys
 numbersOf (Prepare p) keys = row 4 everyone 0 (p .trigger) 0 (p .ballot) 0 0 0 0 keys
 numbersOf (PrepareReply p) keys = row 5 (p .member) (p .slot) (p .trigger) (p .endprep) (p .ballot) (p .voted) (p .batch) (p .bar) (p .count) keys
 numbersOf (Accept p) keys = row 6 everyone (p .slot) 0 0 (p .ballot) 0 (p .batch) 0 (p .count) keys

@@ -15,7 +15,7 @@ unfoldable pub actionOf : ℕ → ℕ → ℕ → ℕ → ℕ → ℕ → ℕ �
 actionOf kind member slot trigger endprep ballot voted batch bar count =
     pick (eqb kind 1) (PrepareBal (record { slot = slot; ballot = ballot }))
     (pick (eqb kind 2) (AcceptData (record { slot = slot; ballot = ballot; batch = batch; count = count }))
-    (pick (eqb kind 3) (CommitSlot (record { slot = slot }))
+    (pick (eqb kind 3) (CommitSlot (record { slot = slot; ballot = ballot }))
     (pick (eqb kind 4) (Prepare (record { trigger = trigger; ballot = ballot }))
     (pick (eqb kind 5)
     (PrepareReply

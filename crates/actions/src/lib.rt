@@ -20,9 +20,10 @@ pub struct Proposal {
     pub count: usize,
 }
 
-// The content of a CommitSlot entry.
+// The content of a CommitSlot entry: the slot and, since 02's fifth wish, its ballot.
 pub struct Mark {
     pub slot: u64,
+    pub ballot: u64,
 }
 
 // The content of a Prepare.
@@ -187,7 +188,7 @@ fn numbers(a: Action, keys: [u64; 8]) -> [u64; 18]
     match a {
         Action::PrepareBal(p) => full(1, 0, p.slot, 0, 0, p.ballot, 0, 0, 0, 0, keys),
         Action::AcceptData(p) => full(2, 0, p.slot, 0, 0, p.ballot, 0, p.batch, 0, p.count, keys),
-        Action::CommitSlot(p) => full(3, 0, p.slot, 0, 0, 0, 0, 0, 0, 0, keys),
+        Action::CommitSlot(p) => full(3, 0, p.slot, 0, 0, p.ballot, 0, 0, 0, 0, keys),
         Action::Prepare(p) => full(4, 255, 0, p.trigger, 0, p.ballot, 0, 0, 0, 0, keys),
         Action::PrepareReply(p) => full(
             5,
@@ -330,7 +331,10 @@ fn row_action(nums: [u64; 18]) -> Action
             batch: batch,
             count: count,
         }),
-        3 => Action::CommitSlot(Mark { slot: slot }),
+        3 => Action::CommitSlot(Mark {
+            slot: slot,
+            ballot: ballot,
+        }),
         4 => Action::Prepare(Ask {
             trigger: trigger,
             ballot: ballot,

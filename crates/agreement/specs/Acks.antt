@@ -133,7 +133,7 @@ AcksSent g w = (l : ℕ) → g .present l ≡ true → Behind w l (w .replica l)
 ack-cases : {r : Replica} {i p : ℕ} {c : Call} → AcceptAck r i p c
     → ((slot : ℕ) × (ballot : ℕ) × (c ≡ callAcceptReply p slot ballot) × (ballot ≡ sentOf r) × (slot ≡ number (r .sc) i)) ⊎ (p ≡ r .sc .id)
 ack-cases (accept-came slot ballot e s) = inl (slot, ballot, refl, e, s)
-ack-cases (accept-own slot offset e s) = inr e
+ack-cases (accept-own slot bal offset e s) = inr e
 
 module _ (g : Group) (w : World) (reach : Reach g w) (ih : AcksSent g w) (m : ℕ) (l : g .present m ≡ true) (room : ℕ) (c : Call) (a : May w m room c) where
   abbrev o : Outcome

@@ -23,6 +23,7 @@ use Rattle.replica.specs.declared.Entry.the-variants.{AcceptData}
 use Rattle.replica.specs.Record.{Outcome, newReplica, fresh, zeroReplica, place, number}
 use Rattle.replica.specs.Step.{Call, callAcceptReply, callLogged, step}
 use Rattle.laws.specs.Theorems.{refusals-silent, group-stays}
+use Rattle.laws.specs.WaysDurability.{completion}
 use Rattle.voting.specs.Paper.{Majority, Chosen}
 use Rattle.voting.specs.Quorums.{commitOf, acksOf, Committed, commit-at, commit-by-reply, commit-by-own}
 use Rattle.voting.specs.Backing.{insert-or}
@@ -46,24 +47,24 @@ AllReplied w l s set = (m : ℕ) → has set m ≡ true → (m ≡ l) ⊎ HasRep
 
 -- a leader l commits slot s by an AcceptReply from p: each member in accept_acks then is l, or has sent an AcceptReply for s at this ballot
 abbrev pub CommitReplied : Type 0
-CommitReplied = (g : Group) (w : World) → Reach g w → (l : ℕ) → g .present l ≡ true → (s room p ballot : ℕ) → May w l room (callAcceptReply p s ballot)
-    → commitOf s ∈ step (w .replica l) room (callAcceptReply p s ballot) .actions
+CommitReplied = (g : Group) (w : World) → Reach g w → (l : ℕ) → g .present l ≡ true → (s said room p ballot : ℕ) → May w l room (callAcceptReply p s ballot)
+    → commitOf s said ∈ step (w .replica l) room (callAcceptReply p s ballot) .actions
     → AllReplied w l s (acksOf (step (w .replica l) room (callAcceptReply p s ballot) .replica .window) (place (w .replica l .sc) s))
 
 -- and in a truthful run what it commits is chosen
 abbrev pub CommitChosen : Type 0
-CommitChosen = (g : Group) (w : World) (r : Reach g w) → Truthful r → (l : ℕ) → g .present l ≡ true → (s room p ballot : ℕ) → May w l room (callAcceptReply p s ballot)
-    → commitOf s ∈ step (w .replica l) room (callAcceptReply p s ballot) .actions → Chosen (g .size) (accepted w s) (proposalAt w l s)
+CommitChosen = (g : Group) (w : World) (r : Reach g w) → Truthful r → (l : ℕ) → g .present l ≡ true → (s said room p ballot : ℕ) → May w l room (callAcceptReply p s ballot)
+    → commitOf s said ∈ step (w .replica l) room (callAcceptReply p s ballot) .actions → Chosen (g .size) (accepted w s) (proposalAt w l s)
 
 -- the same where l commits by its own AcceptData entry
 abbrev pub OwnCommitReplied : Type 0
-OwnCommitReplied = (g : Group) (w : World) → Reach g w → (l : ℕ) → g .present l ≡ true → (s room offset : ℕ)
-    → commitOf s ∈ step (w .replica l) room (callLogged (record { entry = AcceptData; slot = s; size = offset })) .actions
-    → AllReplied w l s (acksOf (step (w .replica l) room (callLogged (record { entry = AcceptData; slot = s; size = offset })) .replica .window) (place (w .replica l .sc) s))
+OwnCommitReplied = (g : Group) (w : World) → Reach g w → (l : ℕ) → g .present l ≡ true → (s said room bal offset : ℕ)
+    → commitOf s said ∈ step (w .replica l) room (callLogged (completion AcceptData s bal offset)) .actions
+    → AllReplied w l s (acksOf (step (w .replica l) room (callLogged (completion AcceptData s bal offset)) .replica .window) (place (w .replica l .sc) s))
 
 abbrev pub OwnCommitChosen : Type 0
-OwnCommitChosen = (g : Group) (w : World) (r : Reach g w) → Truthful r → (l : ℕ) → g .present l ≡ true → (s room offset : ℕ)
-    → commitOf s ∈ step (w .replica l) room (callLogged (record { entry = AcceptData; slot = s; size = offset })) .actions
+OwnCommitChosen = (g : Group) (w : World) (r : Reach g w) → Truthful r → (l : ℕ) → g .present l ≡ true → (s said room bal offset : ℕ)
+    → commitOf s said ∈ step (w .replica l) room (callLogged (completion AcceptData s bal offset)) .actions
     → Chosen (g .size) (accepted w s) (proposalAt w l s)
 
 -- ── every member's group is the group ──
@@ -163,15 +164,15 @@ module _ (g : Group) (w : World) (reach : Reach g w) (l : ℕ) (pres : g .presen
         go m (inl e) = subst (λ (n : ℕ). accepted w s n (proposalAt w l s)) (sym e) own
         go m (inr x) = same m (truthful-entry g w reach t m s (proposalAt w l s .ballot) x)
 
-  low-of : (room : ℕ) (c : Call) → commitOf s ∈ step r room c .actions → r .sc .start ≤ s
-  low-of room c h =
+  low-of : (said room : ℕ) (c : Call) → commitOf s said ∈ step r room c .actions → r .sc .start ≤ s
+  low-of said room c h =
       let k = framed g w reach l pres room c in
-      let m : Marked (viewOf r .slot s) (viewOf (step r room c .replica) .slot s) (viewOf (step r room c .replica) .seen) =
-      all-in (ActOk (viewOf r) c (viewOf (step r room c .replica)) (step r room c .actions)) (k .said) h in
+      let m : Marked (viewOf r .slot s) (viewOf (step r room c .replica) .slot s) said (viewOf (step r room c .replica) .seen) =
+      all-in (ActOk (viewOf r) c (viewOf (step r room c .replica)) (step r room c .actions)) (k .said) h .0 in
       numbered-here (r .sc .start) (r .window) s (omega (arith, m .was)) .0
 
   -- by an AcceptReply
-  module _ (room p ballot : ℕ) (a : May w l room (callAcceptReply p s ballot)) (h : commitOf s ∈ step r room (callAcceptReply p s ballot) .actions) where
+  module _ (said room p ballot : ℕ) (a : May w l room (callAcceptReply p s ballot)) (h : commitOf s said ∈ step r room (callAcceptReply p s ballot) .actions) where
     abbrev o : Outcome
     o = step r room (callAcceptReply p s ballot)
 
@@ -181,41 +182,41 @@ module _ (g : Group) (w : World) (reach : Reach g w) (l : ℕ) (pres : g .presen
         go : HasReplied w p s ballot ⊎ ((o .answer ≡ 0 → ⊥) × (o .replica ≡ r)) → (p ≡ l) ⊎ HasReplied w p s (proposalAt w l s .ballot)
         go (inl x) =
             inr (subst (HasReplied w p s)
-            (sym (ap (λ (v : Slot). v .ballot) (numbered-place (r .sc .start) (r .window) s (low-of room (callAcceptReply p s ballot) h)) ∙ commit-at r room p s ballot h)) x)
-        go (inr (n, _)) = absurd (List·Memᴰ·not-nil (subst (λ (y : List Act). commitOf s ∈ y) (refusals-silent r room (callAcceptReply p s ballot) n) h))
+            (sym (ap (λ (v : Slot). v .ballot) (numbered-place (r .sc .start) (r .window) s (low-of said room (callAcceptReply p s ballot) h)) ∙ commit-at r room p s ballot said h .0)) x)
+        go (inr (n, _)) = absurd (List·Memᴰ·not-nil (subst (λ (y : List Act). commitOf s said ∈ y) (refusals-silent r room (callAcceptReply p s ballot) n) h))
 
     committed-now : Committed r (o .replica .window) (place (r .sc) s) p
-    committed-now = commit-by-reply r room p s ballot (fine-in g w reach l pres .whole) h
+    committed-now = commit-by-reply r room p s ballot said (fine-in g w reach l pres .whole) h
 
     by-reply-replied : AllReplied w l s (acksOf (o .replica .window) (place (r .sc) s))
-    by-reply-replied = all-replied p (o .replica .window) (low-of room (callAcceptReply p s ballot) h) committed-now last-replied
+    by-reply-replied = all-replied p (o .replica .window) (low-of said room (callAcceptReply p s ballot) h) committed-now last-replied
 
     by-reply-chosen : Truthful reach → Chosen (g .size) (accepted w s) (proposalAt w l s)
-    by-reply-chosen = is-chosen p (o .replica .window) (low-of room (callAcceptReply p s ballot) h) committed-now last-replied
+    by-reply-chosen = is-chosen p (o .replica .window) (low-of said room (callAcceptReply p s ballot) h) committed-now last-replied
 
   -- by the leader's own AcceptData entry
-  module _ (room offset : ℕ) (h : commitOf s ∈ step r room (callLogged (record { entry = AcceptData; slot = s; size = offset })) .actions) where
+  module _ (said room bal offset : ℕ) (h : commitOf s said ∈ step r room (callLogged (completion AcceptData s bal offset)) .actions) where
     abbrev own-o : Outcome
-    own-o = step r room (callLogged (record { entry = AcceptData; slot = s; size = offset }))
+    own-o = step r room (callLogged (completion AcceptData s bal offset))
 
     own-now : Committed r (own-o .replica .window) (place (r .sc) s) (r .sc .id)
-    own-now = commit-by-own r room s offset (fine-in g w reach l pres .whole) h
+    own-now = commit-by-own r room s said bal offset (fine-in g w reach l pres .whole) h
 
     by-own-replied : AllReplied w l s (acksOf (own-o .replica .window) (place (r .sc) s))
-    by-own-replied = all-replied (r .sc .id) (own-o .replica .window) (low-of room (callLogged (record { entry = AcceptData; slot = s; size = offset })) h) own-now (inl (inv g w reach .local l pres .id))
+    by-own-replied = all-replied (r .sc .id) (own-o .replica .window) (low-of said room (callLogged (completion AcceptData s bal offset)) h) own-now (inl (inv g w reach .local l pres .id))
 
     by-own-chosen : Truthful reach → Chosen (g .size) (accepted w s) (proposalAt w l s)
-    by-own-chosen = is-chosen (r .sc .id) (own-o .replica .window) (low-of room (callLogged (record { entry = AcceptData; slot = s; size = offset })) h) own-now (inl (inv g w reach .local l pres .id))
+    by-own-chosen = is-chosen (r .sc .id) (own-o .replica .window) (low-of said room (callLogged (completion AcceptData s bal offset)) h) own-now (inl (inv g w reach .local l pres .id))
 
 -- ── the theorems ──
 pub commit-replied : CommitReplied
-commit-replied g w reach l pres s room p ballot a h = by-reply-replied g w reach l pres s room p ballot a h
+commit-replied g w reach l pres s said room p ballot a h = by-reply-replied g w reach l pres s said room p ballot a h
 
 pub commit-chosen : CommitChosen
-commit-chosen g w reach t l pres s room p ballot a h = by-reply-chosen g w reach l pres s room p ballot a h t
+commit-chosen g w reach t l pres s said room p ballot a h = by-reply-chosen g w reach l pres s said room p ballot a h t
 
 pub own-commit-replied : OwnCommitReplied
-own-commit-replied g w reach l pres s room offset h = by-own-replied g w reach l pres s room offset h
+own-commit-replied g w reach l pres s said room bal offset h = by-own-replied g w reach l pres s said room bal offset h
 
 pub own-commit-chosen : OwnCommitChosen
-own-commit-chosen g w reach t l pres s room offset h = by-own-chosen g w reach l pres s room offset h t
+own-commit-chosen g w reach t l pres s said room bal offset h = by-own-chosen g w reach l pres s said room bal offset h t

@@ -1,5 +1,5 @@
--- Marks and commit entries: a slot is marked in a call exactly where the call writes its commit entry, every such slot is among the marks, and
--- each commit entry in a log has, earlier in that log, the accept entry for its slot at the slot's ballot.
+-- Marks and commit entries: a slot is marked in a call exactly where the call writes its commit entry, at the mark's ballot, every such slot is among
+-- the marks, and each commit entry in a log has, earlier in that log, an accept entry for its slot with the same ballot.
 use mathlib.Core.Path.{_≡_, refl, sym, subst}
 use mathlib.Core.Bool.{true, false}
 use mathlib.Core.List.{List, [], _∷_, _++_, List·Memᴰ·head, List·Memᴰ·not-nil, Memᴰ·append-left, Memᴰ·append-right}
@@ -51,8 +51,8 @@ risen-marked m r r′ s e =
 
 -- in any call, of any member present in any reachable world
 pub record MarksAreCommits (r : Replica) (o : Outcome) : Type 0 where
-  pub to : (s : ℕ) → rises (slotOf r s) (slotOf (o .replica) s) ≡ true → commitEntry s ∈ o .actions
-  pub back : (s : ℕ) → commitEntry s ∈ o .actions → rises (slotOf r s) (slotOf (o .replica) s) ≡ true
+  pub to : (s : ℕ) → rises (slotOf r s) (slotOf (o .replica) s) ≡ true → commitEntry s (slotOf (o .replica) s .ballot) ∈ o .actions
+  pub back : (s b : ℕ) → commitEntry s b ∈ o .actions → (rises (slotOf r s) (slotOf (o .replica) s) ≡ true) × (b ≡ slotOf (o .replica) s .ballot)
 
 pub marks-are-commits : (g : Group) (w : World) → Reach g w → (m : ℕ) → g .present m ≡ true → (room : ℕ) (c : Call)
     → MarksAreCommits (w .replica m) (step (w .replica m) room c)
@@ -81,15 +81,14 @@ split {A} (y ∷ h) a (z ∷ b) r x e =
     go (first l p) q = first l (λ k. q k ∷ p k)
     go (second l p u) q = second l (λ k. sym q k ∷ p k) u
 
--- the mark of a commit entry, and its accept entry earlier in the log
-pub record Followed (w : World) (m s : ℕ) (earlier : List Act) : Type 0 where
-  pub ballot : ℕ
+-- the mark of a commit entry, at its ballot, and its accept entry earlier in the log
+pub record Followed (w : World) (m s ballot : ℕ) (earlier : List Act) : Type 0 where
   pub batch : Batch
   pub marked : record { who = m; slot = s; ballot = ballot; batch = batch } ∈ w .marks
   pub entry : acceptEntry s ballot batch ∈ earlier
 
 abbrev pub CommitsFollow : World → Type 0
-CommitsFollow w = (m s : ℕ) (earlier later : List Act) → w .did m ≡ earlier ++ (commitEntry s ∷ later) → Followed w m s earlier
+CommitsFollow w = (m s ballot : ℕ) (earlier later : List Act) → w .did m ≡ earlier ++ (commitEntry s ballot ∷ later) → Followed w m s ballot earlier
 
 in-middle : {A : Type 0} (l r : List A) (x : A) → x ∈ (l ++ (x ∷ r))
 in-middle l r x = Memᴰ·append-right l (List·Memᴰ·head refl)
@@ -106,30 +105,33 @@ module _ (g : Group) (w : World) (reach : Reach g w) (ih : CommitsFollow w) (m :
   unfolding put
   new-mark x = Memᴰ·append-right (w .marks) x
 
-  older : {j s : ℕ} {earlier : List Act} → Followed w j s earlier → Followed (put w m o) j s earlier
-  older f = record { ballot = f .ballot; batch = f .batch; marked = more-marks (f .marked); entry = f .entry }
+  older : {j s b : ℕ} {earlier : List Act} → Followed w j s b earlier → Followed (put w m o) j s b earlier
+  older f = record { batch = f .batch; marked = more-marks (f .marked); entry = f .entry }
 
-  own : (s : ℕ) (earlier later : List Act) → Split (w .did m) (o .actions) earlier later (commitEntry s) → Followed (put w m o) m s earlier
-  own s earlier later (first l e) = older (ih m s earlier l e)
-  own s earlier later (second l e u) =
-      let x : commitEntry s ∈ o .actions = subst (λ (y : List Act). commitEntry s ∈ y) (sym u) (in-middle l later (commitEntry s)) in
+  own : (s b : ℕ) (earlier later : List Act) → Split (w .did m) (o .actions) earlier later (commitEntry s b) → Followed (put w m o) m s b earlier
+  own s b earlier later (first l e) = older (ih m s b earlier l e)
+  own s b earlier later (second l e u) =
+      let x : commitEntry s b ∈ o .actions = subst (λ (y : List Act). commitEntry s b ∈ y) (sym u) (in-middle l later (commitEntry s b)) in
+      let (t, q) = marks-are-commits g w reach m p room c .back s b x in
       record {
-        ballot = slotOf (o .replica) s .ballot;
         batch = slotOf (o .replica) s .batch;
-        marked = new-mark (risen-marked m (w .replica m) (o .replica) s (marks-are-commits g w reach m p room c .back s x));
-        entry = subst (λ (y : List Act). acceptEntry s (slotOf (o .replica) s .ballot) (slotOf (o .replica) s .batch) ∈ y) (sym e)
-            (Memᴰ·append-left l (commit-earlier-in g w (inv g w reach) m p c o (framed g w reach m p room c) (accept-sent w m room c a) s x));
+        marked =
+            subst (λ (n : ℕ). record { who = m; slot = s; ballot = n; batch = slotOf (o .replica) s .batch } ∈ put w m o .marks) (sym q)
+            (new-mark (risen-marked m (w .replica m) (o .replica) s t));
+        entry = subst (λ (y : List Act). acceptEntry s b (slotOf (o .replica) s .batch) ∈ y) (sym e)
+            (Memᴰ·append-left l (commit-earlier-in g w (inv g w reach) m p c o (framed g w reach m p room c) (accept-sent w m room c a) s b x));
       }
 
   follow-step : CommitsFollow (put w m o)
-  follow-step j s earlier later =
-      each w m o (λ j r h. h ≡ earlier ++ (commitEntry s ∷ later) → Followed (put w m o) j s earlier) j
-      (λ d e. older (ih j s earlier later e))
-      (λ e. own s earlier later (split (w .did m) (o .actions) earlier later (commitEntry s) e))
+  follow-step j s b earlier later =
+      each w m o (λ j r h. h ≡ earlier ++ (commitEntry s b ∷ later) → Followed (put w m o) j s b earlier) j
+      (λ d e. older (ih j s b earlier later e))
+      (λ e. own s b earlier later (split (w .did m) (o .actions) earlier later (commitEntry s b) e))
 
 start-follow : (g : Group) → CommitsFollow (begin g)
 unfolding begin
-start-follow g m s earlier later e = absurd (List·Memᴰ·not-nil (subst (λ (l : List Act). commitEntry s ∈ l) (sym e) (in-middle earlier later (commitEntry s))))
+start-follow g m s b earlier later e =
+    absurd (List·Memᴰ·not-nil (subst (λ (l : List Act). commitEntry s b ∈ l) (sym e) (in-middle earlier later (commitEntry s b))))
 
 pub commits-follow : (g : Group) (w : World) → Reach g w → CommitsFollow w
 commits-follow g w begins = start-follow g

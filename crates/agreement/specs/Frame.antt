@@ -10,7 +10,7 @@ use Rattle.batch.specs.declared.Batch.{Batch}
 use Rattle.actions.specs.declared.Action.{Action}
 use Rattle.actions.specs.declared.Proposal.{Proposal}
 use Rattle.actions.specs.declared.Action.the-variants.{PrepareBal, AcceptData, CommitSlot, Prepare, PrepareReply, Accept, AcceptReply, CommitNotice, Heartbeat, StatusUp, StatusDown, Execute, ReadAnswer}
-use Rattle.actions.specs.Actions.{Act}
+use Rattle.actions.specs.Actions.{Act, noKeys}
 use Rattle.slots.specs.declared.Slot.{Slot}
 use Rattle.decide.specs.declared.Scalars.{Scalars}
 use Rattle.decide.specs.Scalars.{leads}
@@ -32,12 +32,13 @@ cell x = record { status = x .status; ballot = x .ballot; batch = x .batch }
 
 pub record View : Type 0 where
   pub me : ℕ
+  pub start : ℕ
   pub leading : Bool
   pub seen : ℕ
   pub slot : ℕ → Cell
 
 abbrev pub view : Scalars → Window → View
-view sc w = record { me = sc .id; leading = leads sc; seen = sc .«bal_max_seen»; slot = λ s. cell (numbered (sc .start) w s) }
+view sc w = record { me = sc .id; start = sc .start; leading = leads sc; seen = sc .«bal_max_seen»; slot = λ s. cell (numbered (sc .start) w s) }
 
 -- p made the ballot b
 abbrev pub Owns : ℕ → ℕ → Type 0
@@ -65,12 +66,13 @@ pub record Wrote (v : View) (c : Call) (v′ : View) (s ballot : ℕ) (b : Batch
   pub held : Holds (v′ .slot s) ballot b
   pub why : Why v c s ballot b
 
--- a commit entry is of a slot that was Accepting and is Committed now, its ballot and batch kept; the ballot is the largest seen
-pub record Marked (x y : Cell) (seen : ℕ) : Type 0 where
+-- a commit entry is of a slot that was Accepting and is Committed now, its ballot and batch kept; it says this ballot, which is the largest seen
+pub record Marked (x y : Cell) (said seen : ℕ) : Type 0 where
   pub was : x .status ≡ 2
   pub now : 3 ≤ y .status
   pub at : y .ballot ≡ x .ballot
   pub val : y .batch ≡ x .batch
+  pub says : said ≡ y .ballot
   pub top : y .ballot ≡ seen
 
 -- an Accept is sent for an own ballot, with its entry beside it
@@ -85,7 +87,7 @@ named p keys = record { id = p .batch; count = p .count; keys = keys }
 abbrev pub SaidOk : View → Call → View → List Act → List ℕ → Action → Type 0
 SaidOk v c v′ acts keys (PrepareBal p) = p .ballot ≡ v′ .seen
 SaidOk v c v′ acts keys (AcceptData p) = Wrote v c v′ (p .slot) (p .ballot) (named p keys)
-SaidOk v c v′ acts keys (CommitSlot p) = Marked (v .slot (p .slot)) (v′ .slot (p .slot)) (v′ .seen)
+SaidOk v c v′ acts keys (CommitSlot p) = Marked (v .slot (p .slot)) (v′ .slot (p .slot)) (p .ballot) (v′ .seen)
 SaidOk v c v′ acts keys (Prepare p) = Unit {0}
 SaidOk v c v′ acts keys (PrepareReply p) = Unit {0}
 SaidOk v c v′ acts keys (Accept p) = Sent v acts (p .slot) (p .ballot) (named p keys)
@@ -97,9 +99,29 @@ SaidOk v c v′ acts keys StatusDown = Unit {0}
 SaidOk v c v′ acts keys (Execute p) = Unit {0}
 SaidOk v c v′ acts keys (ReadAnswer p) = Unit {0}
 
+-- one of the 64 slots from `start` on
+abbrev pub InWindow : ℕ → ℕ → Type 0
+InWindow start s = (start ≤ s) × (s < start + 64)
+
+-- what a log that begins at `start` may hold: its entries' slots are of the window, an accept entry's batch is clean, and the others have no keys
+abbrev pub Loggable : ℕ → List ℕ → Action → Type 0
+Loggable start keys (PrepareBal p) = InWindow start (p .slot) × (keys ≡ noKeys)
+Loggable start keys (AcceptData p) = InWindow start (p .slot) × Clean (named p keys)
+Loggable start keys (CommitSlot p) = InWindow start (p .slot) × (keys ≡ noKeys)
+Loggable start keys (Prepare p) = Unit {0}
+Loggable start keys (PrepareReply p) = Unit {0}
+Loggable start keys (Accept p) = Unit {0}
+Loggable start keys (AcceptReply p) = Unit {0}
+Loggable start keys (CommitNotice p) = Unit {0}
+Loggable start keys Heartbeat = Unit {0}
+Loggable start keys StatusUp = Unit {0}
+Loggable start keys StatusDown = Unit {0}
+Loggable start keys (Execute p) = Unit {0}
+Loggable start keys (ReadAnswer p) = Unit {0}
+
 -- v before the call and v′ after it, acts all its actions
 abbrev pub ActOk : View → Call → View → List Act → Act → Type 0
-ActOk v c v′ acts a = SaidOk v c v′ acts (a .keys) (a .what)
+ActOk v c v′ acts a = SaidOk v c v′ acts (a .keys) (a .what) × Loggable (v .start) (a .keys) (a .what)
 
 -- ── slots ──
 -- what becomes of slot s, x before and y after: it stays below Accepting; it stays at or above Accepting with its ballot and batch; its accept
@@ -113,12 +135,13 @@ pub data SlotStep (v v′ : View) (acts : List Act) (s : ℕ) (x y : Cell) : Typ
 -- ── the frame of a call c with answer n ──
 pub record Frame (v : View) (c : Call) (n : ℕ) (v′ : View) (acts : List Act) : Type 0 where
   pub same : v′ .me ≡ v .me
+  pub fixed : v′ .start ≡ v .start
   pub mono : v .seen ≤ v′ .seen
   -- who leads after the call led before it at the same ballot, or has a larger ballot
   pub lead : v′ .leading ≡ true → ((v .leading ≡ true) × (v′ .seen ≡ v .seen)) ⊎ (v .seen < v′ .seen)
   pub slot : (s : ℕ) → SlotStep v v′ acts s (v .slot s) (v′ .slot s)
-  -- a status rises to Committed only with a commit entry
-  pub rise : (s : ℕ) → v .slot s .status < 3 → 3 ≤ v′ .slot s .status → commitEntry s ∈ acts
+  -- a status rises to Committed only with a commit entry, at the slot's ballot
+  pub rise : (s : ℕ) → v .slot s .status < 3 → 3 ≤ v′ .slot s .status → commitEntry s (v′ .slot s .ballot) ∈ acts
   pub said : All (ActOk v c v′ acts) acts
   -- "all but 0 give no actions"
   pub quiet : (n ≡ 0 → ⊥) → acts ≡ []

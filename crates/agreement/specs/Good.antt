@@ -100,7 +100,7 @@ good-same q k =
 pub record Turned (v : View) (sc′ : Scalars) (v′ : View) (acts : List Act) (s : ℕ) (x y : Slot) : Type 0 where
   pub good : GoodSlot sc′ y
   pub step : SlotStep v v′ acts s (cell x) (cell y)
-  pub rise : x .status < 3 → 3 ≤ y .status → commitEntry s ∈ acts
+  pub rise : x .status < 3 → 3 ≤ y .status → commitEntry s (y .ballot) ∈ acts
 
 -- the parts of a slot that the frame and `Good` look at stay
 pub record Like (x y : Slot) : Type 0 where
@@ -153,6 +153,7 @@ module _ (sc : Scalars) (w : Window) (c : Call) (n : ℕ) (sc′ : Scalars) (w�
         good = record { small = omega (arith, g .small, h .id); sent = h .sent; own = h .own; wide = wide; short = short; each = λ i. e i .good };
         frame = record {
           same = h .id;
+          fixed = h .start;
           mono = h .mono;
           lead = h .lead;
           slot = λ s.
@@ -160,8 +161,8 @@ module _ (sc : Scalars) (w : Window) (c : Call) (n : ℕ) (sc′ : Scalars) (w�
               (by-place (λ (s : ℕ) (x y : Slot). SlotStep (view sc w) (view sc′ w′) acts s (cell x) (cell y)) (sc .start) w w′ (λ s. low (omega arith) (omega arith))
               (λ i. e i .step) s);
           rise = λ s.
-              subst (λ (k : ℕ). numbered (sc .start) w s .status < 3 → 3 ≤ numbered k w′ s .status → commitEntry s ∈ acts) (sym (h .start))
-              (by-place (λ (s : ℕ) (x y : Slot). x .status < 3 → 3 ≤ y .status → commitEntry s ∈ acts) (sc .start) w w′ (λ s _ z. absurd (omega arith))
+              subst (λ (k : ℕ). numbered (sc .start) w s .status < 3 → 3 ≤ numbered k w′ s .status → commitEntry s (numbered k w′ s .ballot) ∈ acts) (sym (h .start))
+              (by-place (λ (s : ℕ) (x y : Slot). x .status < 3 → 3 ≤ y .status → commitEntry s (y .ballot) ∈ acts) (sc .start) w w′ (λ s _ z. absurd (omega arith))
               (λ i. e i .rise) s);
           said = said;
           quiet = quiet;
@@ -174,7 +175,7 @@ at-number P start w s i e h = subst (λ (k : ℕ). P (cell (numbered start w k))
 
 -- ── views that are one ──
 pub view-like : (sc sc′ : Scalars) (w w′ : Window) → Same sc sc′ → ((i : ℕ) → Like (atPlace w i) (atPlace w′ i)) → view sc′ w′ ≡ view sc w
-view-like sc sc′ w w′ q l = λ k. record { me = q .id k; leading = leading k; seen = q .seen k; slot = slots k }
+view-like sc sc′ w w′ q l = λ k. record { me = q .id k; start = q .start k; leading = leading k; seen = q .seen k; slot = slots k }
   where
     leading : leads sc′ ≡ leads sc
     leading = λ k. eqb (q .leader k) (q .id k)

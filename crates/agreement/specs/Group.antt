@@ -151,15 +151,15 @@ module _ (w : World) (m : ℕ) (o : Outcome) where
 
 -- ── a mark and its commit entry ──
 module _ (r : Replica) (c : Call) (n : ℕ) (r′ : Replica) (acts : List Act) (k : Frame (viewOf r) c n (viewOf r′) acts) where
-  pub rises-commit : (s : ℕ) → rises (slotOf r s) (slotOf r′ s) ≡ true → commitEntry s ∈ acts
+  pub rises-commit : (s : ℕ) → rises (slotOf r s) (slotOf r′ s) ≡ true → commitEntry s (slotOf r′ s .ballot) ∈ acts
   rises-commit s e =
       k .rise s (ltb-true (slotOf r s .status) 3 (and-left (ltb (slotOf r s .status) committed) (leb committed (slotOf r′ s .status)) e))
       (leb-true 3 (slotOf r′ s .status) (and-right (ltb (slotOf r s .status) committed) (leb committed (slotOf r′ s .status)) e))
 
-  pub commit-rises : (s : ℕ) → commitEntry s ∈ acts → rises (slotOf r s) (slotOf r′ s) ≡ true
-  commit-rises s m =
-      let y : Marked (viewOf r .slot s) (viewOf r′ .slot s) (viewOf r′ .seen) = all-in (ActOk (viewOf r) c (viewOf r′) acts) (k .said) m in
-      and-make (lt-ltb (slotOf r s .status) 3 (omega (arith, y .was))) (le-leb 3 (slotOf r′ s .status) (y .now))
+  pub commit-rises : (s b : ℕ) → commitEntry s b ∈ acts → (rises (slotOf r s) (slotOf r′ s) ≡ true) × (b ≡ slotOf r′ s .ballot)
+  commit-rises s b m =
+      let y : Marked (viewOf r .slot s) (viewOf r′ .slot s) b (viewOf r′ .seen) = all-in (ActOk (viewOf r) c (viewOf r′) acts) (k .said) m .0 in
+      (and-make (lt-ltb (slotOf r s .status) 3 (omega (arith, y .was))) (le-leb 3 (slotOf r′ s .status) (y .now)), y .says)
 
 -- ── whatever keeps to the frame keeps the invariant: an outcome o of a call c at member m, whose Accept, if it is one, was sent or is refused ──
 module _ (g : Group) (w : World) (i : Inv g w) (m : ℕ) (l : g .present m ≡ true) (c : Call) (o : Outcome) (k : Frame (viewOf (w .replica m)) c (o .answer) (viewOf (o .replica)) (o .actions))
@@ -183,11 +183,11 @@ module _ (g : Group) (w : World) (i : Inv g w) (m : ℕ) (l : g .present m ≡ t
   from-step j s b e (inl x) = let (p, q, y) = i .from j s b e x in (p, q, old w m o p y)
   from-step j s b e (inr (_, x)) =
       let y : Wrote (viewOf (w .replica m)) c (viewOf (o .replica)) s b e = all-in (ActOk (viewOf (w .replica m)) c (viewOf (o .replica)) (o .actions))
-      (k .said) x in
+      (k .said) x .0 in
       from-why s b e x (y .why)
 
   -- the accept entry of a slot that is marked is in the log before the call
-  pub commit-earlier-in : (s : ℕ) → commitEntry s ∈ o .actions → acceptEntry s (slotOf (o .replica) s .ballot) (slotOf (o .replica) s .batch) ∈ w .did m
+  pub commit-earlier-in : (s b : ℕ) → commitEntry s b ∈ o .actions → acceptEntry s b (slotOf (o .replica) s .batch) ∈ w .did m
   commit-earlier-in = commit-earlier m (viewOf (w .replica m)) (w .did m) c (o .answer) (viewOf (o .replica)) (o .actions) (i .local m l) k
 
   marks-step : All (MarkOk (put w m o .did)) (marksOf m (w .replica m) (o .replica))
@@ -196,7 +196,7 @@ module _ (g : Group) (w : World) (i : Inv g w) (m : ℕ) (l : g .present m ≡ t
       all-gather (markAt m (w .replica m) (o .replica)) (MarkOk (put w m o .did)) (o .replica .sc .start) (logEnd (o .replica))
       (λ s _ _.
       pick-cases (All (MarkOk (put w m o .did))) (rises (slotOf (w .replica m) s) (slotOf (o .replica) s))
-      (λ e. (old w m o m (commit-earlier-in s (rises-commit (w .replica m) c (o .answer) (o .replica) (o .actions) k s e)), tt)) (λ _. tt))
+      (λ e. (old w m o m (commit-earlier-in s (slotOf (o .replica) s .ballot) (rises-commit (w .replica m) c (o .answer) (o .replica) (o .actions) k s e)), tt)) (λ _. tt))
 
   after-marks : put w m o .marks ≡ w .marks ++ marksOf m (w .replica m) (o .replica)
   unfolding put

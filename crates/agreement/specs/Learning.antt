@@ -67,20 +67,21 @@ module _ (g : Group) (w : World) (reach : Reach g w) (m : ℕ) (p : g .present m
   raised : Raised m (w .replica m) (o .replica) k
   raised = mark-raised m (w .replica m) (o .replica) k x
 
-  pub mark-committed : commitEntry (k .slot) ∈ o .actions
-  mark-committed = rises-commit (w .replica m) c (o .answer) (o .replica) (o .actions) (framed g w reach m p room c) (k .slot) (raised .rose)
+  pub mark-committed : commitEntry (k .slot) (k .ballot) ∈ o .actions
+  mark-committed =
+      subst (λ (y : Mark). commitEntry (k .slot) (y .ballot) ∈ o .actions) (sym (raised .held))
+      (rises-commit (w .replica m) c (o .answer) (o .replica) (o .actions) (framed g w reach m p room c) (k .slot) (raised .rose))
 
   entry-earlier : acceptEntry (k .slot) (k .ballot) (k .batch) ∈ w .did m
   entry-earlier =
-      subst (λ (y : Mark). acceptEntry (k .slot) (y .ballot) (y .batch) ∈ w .did m) (sym (raised .held))
+      subst (λ (y : Mark). acceptEntry (k .slot) (k .ballot) (y .batch) ∈ w .did m) (sym (raised .held))
       (commit-earlier m (viewOf (w .replica m)) (w .did m) c (o .answer) (viewOf (o .replica)) (o .actions) (inv g w reach .local m p) (framed g w reach m p room c) (k .slot)
-      mark-committed)
+      (k .ballot) mark-committed)
 
   at-largest : k .ballot ≡ o .replica .sc .«bal_max_seen»
   at-largest =
-      ap (λ (y : Mark). y .ballot) (raised .held) ∙
       commit-top m (viewOf (w .replica m)) (w .did m) c (o .answer) (viewOf (o .replica)) (o .actions) (inv g w reach .local m p) (framed g w reach m p room c) (k .slot)
-      mark-committed
+      (k .ballot) mark-committed
 
 pub marked-earlier : MarkedEarlier
 marked-earlier g w reach m p room c k x = entry-earlier g w reach m p room c k x
@@ -90,16 +91,16 @@ mark-at-largest g w reach m p room c k x = at-largest g w reach m p room c k x
 
 -- ── a notice ──
 -- one that writes a commit entry is at the largest ballot seen, and from its owner
-notice-at : (r : Replica) (room p b bar s : ℕ) → commitEntry s ∈ step r room (callCommitNotice p b bar) .actions
+notice-at : (r : Replica) (room p b bar s said : ℕ) → commitEntry s said ∈ step r room (callCommitNotice p b bar) .actions
     → (step r room (callCommitNotice p b bar) .replica .sc .«bal_max_seen» ≡ b) × Owns p b
-notice-at r room p b bar s =
-    commitNoticeStep-ways (λ (o : Outcome). commitEntry s ∈ o .actions → (o .replica .sc .«bal_max_seen» ≡ b) × Owns p b) r room p b bar
+notice-at r room p b bar s said =
+    commitNoticeStep-ways (λ (o : Outcome). commitEntry s said ∈ o .actions → (o .replica .sc .«bal_max_seen» ≡ b) × Owns p b) r room p b bar
     (λ a _ z. absurd (List·Memᴰ·not-nil z)) (λ f _. (sym (f .seen), owns-owns b p (f .owned)))
 
 pub notice-learns : NoticeLearns
 notice-learns g w reach m q room p b bar k x =
     let c : Call = callCommitNotice p b bar in
-    let (top, own) = notice-at (w .replica m) room p b bar (k .slot) (mark-committed g w reach m q room c k x) in
+    let (top, own) = notice-at (w .replica m) room p b bar (k .slot) (k .ballot) (mark-committed g w reach m q room c k x) in
     let e : k .ballot ≡ b = mark-at-largest g w reach m q room c k x ∙ top in
     let y : acceptEntry (k .slot) b (k .batch) ∈ w .did m = subst (λ (n : ℕ). acceptEntry (k .slot) n (k .batch) ∈ w .did m) e (marked-earlier g w reach m q room c k x) in
     let (p′, own′, z) = inv g w reach .from m (k .slot) b (k .batch) y in

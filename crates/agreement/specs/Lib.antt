@@ -10,6 +10,8 @@ pub mod Calls
 pub mod Local
 pub mod Group
 pub mod Commits
+pub mod Entries
+pub mod Ignored
 pub mod Written
 pub mod Runs
 pub mod Learning

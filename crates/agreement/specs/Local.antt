@@ -67,7 +67,7 @@ local-start j v e z =
 
 module _ (j : ℕ) (v : View) (h : List Act) (c : Call) (n : ℕ) (v′ : View) (acts : List Act) (i : Local j v h) (k : Frame v c n v′ acts) where
   pub new : (s b : ℕ) (e : Batch) → acceptEntry s b e ∈ acts → Wrote v c v′ s b e
-  new s b e m = all-in (ActOk v c v′ acts) (k .said) m
+  new s b e m = all-in (ActOk v c v′ acts) (k .said) m .0
 
   cap-step : (s b : ℕ) (e : Batch) → (acceptEntry s b e ∈ h) ⊎ (acceptEntry s b e ∈ acts) → b ≤ v′ .seen
   cap-step s b e (inl m) = omega (arith, i .cap s b e m, k .mono)
@@ -114,7 +114,7 @@ module _ (j : ℕ) (v : View) (h : List Act) (c : Call) (n : ℕ) (v′ : View) 
 
   said-step : (s b : ℕ) (e : Batch) → (acceptSent s b e ∈ h) ⊎ (acceptSent s b e ∈ acts) → Owns j b × (acceptEntry s b e ∈ (h ++ acts)) × Clean e
   said-step s b e (inl m) = let (o, y, t) = i .said s b e m in (o, Memᴰ·append-left acts y, t)
-  said-step s b e (inr m) = let y : Sent v acts s b e = all-in (ActOk v c v′ acts) (k .said) m in
+  said-step s b e (inr m) = let y : Sent v acts s b e = all-in (ActOk v c v′ acts) (k .said) m .0 in
       (omega (arith, y .own, i .id), Memᴰ·append-right h (y .logged), y .tidy)
 
   -- all that one call writes is at one ballot
@@ -136,7 +136,7 @@ module _ (j : ℕ) (v : View) (h : List Act) (c : Call) (n : ℕ) (v′ : View) 
   new-ballots : (l : List Act) → All (ActOk v c v′ acts) l → All (λ b. b ≡ v′ .seen) (ballots l)
   unfolding ballots
   new-ballots [] a = tt
-  new-ballots (x ∷ l) a = all-append (λ b. b ≡ v′ .seen) (ballotOf (x .what)) (ballots l) (one-ballot (x .what) (x .keys) (a .0)) (new-ballots l (a .1))
+  new-ballots (x ∷ l) a = all-append (λ b. b ≡ v′ .seen) (ballotOf (x .what)) (ballots l) (one-ballot (x .what) (x .keys) (a .0 .0)) (new-ballots l (a .1))
 
   under-step : All (λ b. b ≤ v′ .seen) (ballots (h ++ acts))
   under-step =
@@ -164,12 +164,15 @@ module _ (j : ℕ) (v : View) (h : List Act) (c : Call) (n : ℕ) (v′ : View) 
         said = λ s b e m. said-step s b e (List·Memᴰ·append-cases h m);
       }
 
-  -- a commit entry has the accept entry of what it commits before it, in the log as it was
-  pub commit-earlier : (s : ℕ) → commitEntry s ∈ acts → acceptEntry s (v′ .slot s .ballot) (v′ .slot s .batch) ∈ h
-  commit-earlier s m =
-      let y : Marked (v .slot s) (v′ .slot s) (v′ .seen) = all-in (ActOk v c v′ acts) (k .said) m in
-      subst₂ (λ (b : ℕ) (e : Batch). acceptEntry s b e ∈ h) (sym (y .at)) (sym (y .val)) (i .voted s (y .was))
+  -- a commit entry has the accept entry of its slot and ballot, with the batch that it commits, before it, in the log as it was
+  marked : (s b : ℕ) → commitEntry s b ∈ acts → Marked (v .slot s) (v′ .slot s) b (v′ .seen)
+  marked s b m = all-in (ActOk v c v′ acts) (k .said) m .0
 
-  -- and is of a slot at the largest ballot seen
-  pub commit-top : (s : ℕ) → commitEntry s ∈ acts → v′ .slot s .ballot ≡ v′ .seen
-  commit-top s m = let y : Marked (v .slot s) (v′ .slot s) (v′ .seen) = all-in (ActOk v c v′ acts) (k .said) m in y .top
+  pub commit-earlier : (s b : ℕ) → commitEntry s b ∈ acts → acceptEntry s b (v′ .slot s .batch) ∈ h
+  commit-earlier s b m =
+      let y = marked s b m in
+      subst₂ (λ (b : ℕ) (e : Batch). acceptEntry s b e ∈ h) (sym (y .says ∙ y .at)) (sym (y .val)) (i .voted s (y .was))
+
+  -- and its ballot is the largest seen
+  pub commit-top : (s b : ℕ) → commitEntry s b ∈ acts → b ≡ v′ .seen
+  commit-top s b m = let y = marked s b m in y .says ∙ y .top

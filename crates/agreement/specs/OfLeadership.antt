@@ -114,13 +114,14 @@ module _ (r : Replica) (c : Call) (w : Window) (trigger endprep : ℕ) (g : Good
   up-ok =
       grew-ok (r .sc) (r .window) w c 0 upSc upW upActs q
       (assemble (r .sc) w c 0 upSc upW upActs gw up-heads (sweep-long (λ i s. redone s) from (w .len) w ∙ q .wide) (q .short) up-each (
-        tt,
+        (tt, tt),
         (
-          tt,
+          (tt, tt),
           all-append (ActOk (view (r .sc) w) c (view upSc upW) upActs) redoes (bare (Prepare (record { trigger = trigger; ballot = raised })) ∷ [])
               (all-gather (λ i. redoActs (number (r .sc) i) raised (slotAt w i)) (ActOk (view (r .sc) w) c (view upSc upW) upActs) from (w .len)
-              (λ i _ _. pick-both (All (ActOk (view (r .sc) w) c (view upSc upW) upActs)) (leb committed (slotAt w i .status)) tt (refl, tt)))
-              (tt, tt),
+              (λ i _ b. pick-both (All (ActOk (view (r .sc) w) c (view upSc upW) upActs)) (leb committed (slotAt w i .status)) tt
+              ((refl, ((omega arith, omega (arith, q .short)), refl)), tt)))
+              ((tt, tt), tt),
         ),
       )
       (λ z. absurd (z refl)))
@@ -166,7 +167,7 @@ module _ (r : Replica) (c : Call) (w : Window) (ballot from to : ℕ) (g : GoodR
   abbrev pub Noticed : ℕ → Slot → Slot → Type 0
   Noticed i x y = Turned (view (r .sc) w) (r .sc) (view (r .sc) noticedW) noticed (r .sc .start + i) x y
 
-  noticed-in : (i : ℕ) → from ≤ i → i < stop → leb committed (slotAt w i .status) ≡ false → commitEntry (r .sc .start + i) ∈ noticed
+  noticed-in : (i : ℕ) → from ≤ i → i < stop → leb committed (slotAt w i .status) ≡ false → commitEntry (r .sc .start + i) (slotAt w i .ballot) ∈ noticed
   noticed-in i a b t = in-gather marksAt from stop i a b (rw t (List·Memᴰ·head refl))
 
   noticed-turned : (i : ℕ) → from ≤ i → i < stop → GoodSlot (r .sc) (slotAt w i) → Noticed i (slotAt w i) (markedSlot (slotAt w i))
@@ -192,14 +193,14 @@ module _ (r : Replica) (c : Call) (w : Window) (ballot from to : ℕ) (g : GoodR
   at-ballot i a b = omega (arith, may i a b .0, subst (GoodSlot (r .sc)) (here i b) (gw′ .each i) .under)
 
   noticed-marked : (i : ℕ) → from ≤ i → i < stop → leb committed (slotAt w i .status) ≡ false
-      → Marked (view (r .sc) w .slot (r .sc .start + i)) (view (r .sc) noticedW .slot (r .sc .start + i)) (r .sc .«bal_max_seen»)
+      → Marked (view (r .sc) w .slot (r .sc .start + i)) (view (r .sc) noticedW .slot (r .sc .start + i)) (slotAt w i .ballot) (r .sc .«bal_max_seen»)
   noticed-marked i a b t =
-      at-number (λ (x : Cell). Marked x (view (r .sc) noticedW .slot (r .sc .start + i)) (r .sc .«bal_max_seen»)) (r .sc .start) w (r .sc .start + i) i refl
-      (at-number (λ (y : Cell). Marked (cell (atPlace w i)) y (r .sc .«bal_max_seen»)) (r .sc .start) noticedW (r .sc .start + i) i refl
-      (subst (λ (y : Slot). Marked (cell (atPlace w i)) (cell y) (r .sc .«bal_max_seen»))
+      at-number (λ (x : Cell). Marked x (view (r .sc) noticedW .slot (r .sc .start + i)) (slotAt w i .ballot) (r .sc .«bal_max_seen»)) (r .sc .start) w (r .sc .start + i) i refl
+      (at-number (λ (y : Cell). Marked (cell (atPlace w i)) y (slotAt w i .ballot) (r .sc .«bal_max_seen»)) (r .sc .start) noticedW (r .sc .start + i) i refl
+      (subst (λ (y : Slot). Marked (cell (atPlace w i)) (cell y) (slotAt w i .ballot) (r .sc .«bal_max_seen»))
       (sym (sweep-at (λ i s. markedSlot s) from stop w i (omega (arith, q .wide, q .short)) a b (omega (arith, stop-high))))
-      (subst (λ (x : Slot). Marked (cell x) (cell (markedSlot x)) (r .sc .«bal_max_seen»)) (sym (here i b))
-      (rw t (record { was = omega (arith, tests, may i a b .1); now = omega arith; at = refl; val = refl; top = at-ballot i a b })))))
+      (subst (λ (x : Slot). Marked (cell x) (cell (markedSlot x)) (slotAt w i .ballot) (r .sc .«bal_max_seen»)) (sym (here i b))
+      (rw t (record { was = omega (arith, tests, may i a b .1); now = omega arith; at = refl; val = refl; says = refl; top = at-ballot i a b })))))
 
   noticed-ok : StepOk (view (r .sc) (r .window)) c 0 (r .sc) noticedW noticed
   noticed-ok =
@@ -208,7 +209,7 @@ module _ (r : Replica) (c : Call) (w : Window) (ballot from to : ℕ) (g : GoodR
       (sweep-long (λ i s. markedSlot s) from stop w ∙ q .wide) (q .short) noticed-each
       (all-gather marksAt (ActOk (view (r .sc) w) c (view (r .sc) noticedW) noticed) from stop
       (λ i a b. pick-cases (All (ActOk (view (r .sc) w) c (view (r .sc) noticedW) noticed)) (leb committed (slotAt w i .status)) (λ _. tt)
-      (λ t. (noticed-marked i a b t, tt))))
+      (λ t. ((noticed-marked i a b t, ((omega arith, omega (arith, stop-high, fits, q .short)), refl)), tt))))
       (λ z. absurd (z refl)))
 
 pub commitNoticeStep-ok : (r : Replica) (c : Call) → GoodReplica r → (room peer ballot bar : ℕ) → Ok r c (commitNoticeStep r room peer ballot bar)

@@ -32,6 +32,7 @@ use Rattle.replica.specs.Record.{place, number}
 use Rattle.replica.specs.Messages.{clean, downActs, prepareTop, prepareBook, prepareStep, acceptStep, acceptReplyStep}
 use Rattle.replica.specs.Step.{Call, callAccept}
 use Rattle.laws.specs.OfScalars.{followed-fixed, followed-seen}
+use Rattle.laws.specs.Appended.{top-within}
 use Rattle.laws.specs.OfDecide.{accepts}
 use Rattle.laws.specs.WaysMessages.{prepareWindow, prepareStep-ways, acceptWindow, acceptStep-ways, acceptReplyStep-ways}
 use Rattle.agreement.specs.Theorem.{acceptEntry, commitEntry}
@@ -94,7 +95,7 @@ module _ (sc : Scalars) (w : Window) (g : Good sc w) (peer ballot : ℕ) (o : Ow
 
 -- ── Prepare ──
 module _ (r : Replica) (c : Call) (w : Window) (from peer ballot : ℕ) (g : GoodReplica r) (q : Grew (r .window) w) (o : Owns peer ballot) (d : peer ≡ r .sc .id → ⊥)
-    (l : r .sc .«bal_max_seen» ≤ ballot) where
+    (l : r .sc .«bal_max_seen» ≤ ballot) (here : from < w .len) where
   gw : Good (r .sc) w
   gw = good-grew g q
 
@@ -131,9 +132,9 @@ module _ (r : Replica) (c : Call) (w : Window) (from peer ballot : ℕ) (g : Goo
       (assemble (r .sc) w c 0 sc′ w′ acts gw (follow-heads (r .sc) w gw peer ballot o d l)
       (sweep-long (λ i s. preparedSlot ballot (prepareBook (r .sc) w from peer) s) from (prepareTop w from + 1) w ∙ q .wide) (q .short) prepared-each
       (all-append (ActOk (view (r .sc) w) c (view sc′ w′) acts) (downActs (r .sc) ballot) _
-      (pick-both (All (ActOk (view (r .sc) w) c (view sc′ w′) acts)) (stepsDown (r .sc) ballot) (tt, tt) tt)
+      (pick-both (All (ActOk (view (r .sc) w) c (view sc′ w′) acts)) (stepsDown (r .sc) ballot) ((tt, tt), tt) tt)
       (all-gather (λ i. promise (number (r .sc) i) ballot ∷ []) (ActOk (view (r .sc) w) c (view sc′ w′) acts) from (prepareTop w from + 1)
-      (λ i _ _. (sym (follow-seen (r .sc) w gw peer ballot o d l), tt))))
+      (λ i a b. ((sym (follow-seen (r .sc) w gw peer ballot o d l), ((omega arith, omega (arith, top-within w from here, q .short)), refl)), tt))))
       (λ z. absurd (z refl)))
 
 pub owns-owns : (ballot peer : ℕ) → owns ballot peer ≡ true → Owns peer ballot
@@ -143,7 +144,7 @@ pub prepareStep-ok : (r : Replica) (c : Call) → GoodReplica r → (room peer t
 prepareStep-ok r c g room peer trigger ballot =
     prepareStep-ways (Ok r c) r room peer trigger ballot (λ n _. kept-ok r c g n)
     (λ f. prepared-ok r c (prepareWindow r trigger) (place (r .sc) trigger) peer ballot g (grew (r .window) g (place (r .sc) trigger + 1) (omega (arith, f .low, f .high)))
-    (owns-owns ballot peer (f .owned)) (f .peer-is .other) (f .seen))
+    (owns-owns ballot peer (f .owned)) (f .peer-is .other) (f .seen) (omega (arith, filled-has nullSlot (r .window) (place (r .sc) trigger + 1))))
 
 -- ── Accept ──
 module _ (sc : Scalars) (w : Window) (c : Call) (g : Good sc w) (peer slot ballot i : ℕ) (m : Batch) (is : c ≡ callAccept peer slot ballot m) (o : Owns peer ballot)
@@ -185,13 +186,13 @@ module _ (sc : Scalars) (w : Window) (c : Call) (g : Good sc w) (peer slot ballo
       (all-append (ActOk (view sc w) c (view (followed sc peer ballot) (putSlot w i accepted)) (down ++ (acceptEntry slot ballot (clean m) ∷ []))) down
       (acceptEntry slot ballot (clean m) ∷ [])
       (plain (view sc w) c (view (followed sc peer ballot) (putSlot w i accepted)) (down ++ (acceptEntry slot ballot (clean m) ∷ [])))
-      (record { top = sym (follow-seen sc w g peer ballot o d l); held = accepted-held; why = told peer m is refl o d }, tt))
+      ((record { top = sym (follow-seen sc w g peer ballot o d l); held = accepted-held; why = told peer m is refl o d }, ((omega arith, omega (arith, g .short)), clean-clean m)), tt))
       (λ z. absurd (z refl))
 
   told-ok : StepOk (view sc w) c 0 (followed sc peer ballot) (putSlot w i accepted) (saysActs (accepts sc (slotAt w i) peer slot ballot (clean m) .says) (clean m .keys))
   told-ok =
       pick-cases (λ (s : Says). StepOk (view sc w) c 0 (followed sc peer ballot) (putSlot w i accepted) (saysActs s (clean m .keys))) (stepsDown sc ballot)
-      (λ _. accepted-ok (bare StatusDown ∷ []) (λ v c v′ all. (tt, tt)))
+      (λ _. accepted-ok (bare StatusDown ∷ []) (λ v c v′ all. ((tt, tt), tt)))
       (λ _. accepted-ok [] (λ v c v′ all. tt))
 
 pub acceptStep-ok : (r : Replica) (c : Call) → GoodReplica r → (room peer slot ballot : ℕ) (b : Batch) → c ≡ callAccept peer slot ballot b
@@ -229,31 +230,31 @@ module _ (sc : Scalars) (w : Window) (c : Call) (g : Good sc w) (slot i : ℕ) (
     abbrev pub marked : Slot
     marked = committedSlot (acknowledgedSlot peer (slotAt w i))
 
-    marked-each : Each sc w c 0 sc (putSlot w i marked) (commitEntry slot ∷ [])
+    marked-each : Each sc w c 0 sc (putSlot w i marked) (commitEntry slot (slotAt w i .ballot) ∷ [])
     marked-each k =
-        put-cases w i marked (Turned (view sc w) sc (view sc (putSlot w i marked)) (commitEntry slot ∷ []) (sc .start + k) (atPlace w k)) k
+        put-cases w i marked (Turned (view sc w) sc (view sc (putSlot w i marked)) (commitEntry slot (slotAt w i .ballot) ∷ []) (sc .start + k) (atPlace w k)) k
         (λ e _.
-        subst (λ (x : Slot). Turned (view sc w) sc (view sc (putSlot w i marked)) (commitEntry slot ∷ []) (sc .start + k) x marked)
+        subst (λ (x : Slot). Turned (view sc w) sc (view sc (putSlot w i marked)) (commitEntry slot (slotAt w i .ballot) ∷ []) (sc .start + k) x marked)
         (sym (ap (atPlace w) e ∙ at-here w i h))
         (record {
           good = record { under = good-here .under; busy = λ _ _ z. absurd (omega arith); tidy = good-here .tidy; tidyVote = good-here .tidyVote };
           step = kept (omega (arith, is)) (λ z. absurd (omega arith)) (record { on = omega arith; at = refl; val = refl });
-          rise = λ _ _. List·Memᴰ·head (ap commitEntry (omega arith));
+          rise = λ _ _. List·Memᴰ·head (ap (λ (z : ℕ). commitEntry z (slotAt w i .ballot)) (omega arith));
         }))
         (λ _. turned-self (atPlace w k) (g .each k))
 
-    marked-marked : Marked (view sc w .slot slot) (view sc (putSlot w i marked) .slot slot) (sc .«bal_max_seen»)
+    marked-marked : Marked (view sc w .slot slot) (view sc (putSlot w i marked) .slot slot) (slotAt w i .ballot) (sc .«bal_max_seen»)
     marked-marked =
-        at-number (λ (x : Cell). Marked x (view sc (putSlot w i marked) .slot slot) (sc .«bal_max_seen»)) (sc .start) w slot i at
-        (at-number (λ (y : Cell). Marked (cell (atPlace w i)) y (sc .«bal_max_seen»)) (sc .start) (putSlot w i marked) slot i at
-        (subst (λ (x : Slot). Marked (cell x) (cell (atPlace (putSlot w i marked) i)) (sc .«bal_max_seen»)) (sym (at-here w i h))
-        (subst (λ (y : Slot). Marked (cell (slotAt w i)) (cell y) (sc .«bal_max_seen»)) (sym (put-at w i marked h (omega (arith, g .wide, g .short))))
-        (record { was = is; now = omega arith; at = refl; val = refl; top = good-here .busy lead (omega arith) (omega arith) }))))
+        at-number (λ (x : Cell). Marked x (view sc (putSlot w i marked) .slot slot) (slotAt w i .ballot) (sc .«bal_max_seen»)) (sc .start) w slot i at
+        (at-number (λ (y : Cell). Marked (cell (atPlace w i)) y (slotAt w i .ballot) (sc .«bal_max_seen»)) (sc .start) (putSlot w i marked) slot i at
+        (subst (λ (x : Slot). Marked (cell x) (cell (atPlace (putSlot w i marked) i)) (slotAt w i .ballot) (sc .«bal_max_seen»)) (sym (at-here w i h))
+        (subst (λ (y : Slot). Marked (cell (slotAt w i)) (cell y) (slotAt w i .ballot) (sc .«bal_max_seen»)) (sym (put-at w i marked h (omega (arith, g .wide, g .short))))
+        (record { was = is; now = omega arith; at = refl; val = refl; says = refl; top = good-here .busy lead (omega arith) (omega arith) }))))
 
-    pub marked-ok : StepOk (view sc w) c 0 sc (putSlot w i marked) (commitEntry slot ∷ [])
+    pub marked-ok : StepOk (view sc w) c 0 sc (putSlot w i marked) (commitEntry slot (slotAt w i .ballot) ∷ [])
     marked-ok =
-        assemble sc w c 0 sc (putSlot w i marked) (commitEntry slot ∷ []) g (heads-same g (same-self sc)) (put-long w i marked ∙ g .wide) (g .short)
-        marked-each (marked-marked, tt) (λ z. absurd (z refl))
+        assemble sc w c 0 sc (putSlot w i marked) (commitEntry slot (slotAt w i .ballot) ∷ []) g (heads-same g (same-self sc)) (put-long w i marked ∙ g .wide) (g .short)
+        marked-each ((marked-marked, ((omega arith, omega (arith, g .short)), refl)), tt) (λ z. absurd (z refl))
 
   -- the member is put into the set
   pub acked-ok : (peer : ℕ) → StepOk (view sc w) c 0 sc (putSlot w i (acknowledgedSlot peer (slotAt w i))) []

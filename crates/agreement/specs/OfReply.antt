@@ -111,12 +111,12 @@ tabled-same sc b peer bar = fallen-ways (Same sc) sc b peer bar (same-self sc) (
 
 -- a primed log with actions that are prepare entries at the ballot led by
 module _ (sc : Scalars) (w : Window) (c : Call) (g : Good sc w) (h : leads sc ≡ true) (acts : List Act)
-    (said : (v : View) (v′ : View) (all : List Act) → v′ .seen ≡ sc .«bal_max_seen» → All (ActOk v c v′ all) acts) where
+    (said : (v′ : View) (all : List Act) → v′ .seen ≡ sc .«bal_max_seen» → All (ActOk (view sc w) c v′ all) acts) where
   primed-ok : (sc′ : Scalars) (w′ : Window) → Same sc sc′ → Primed sc w w′ → StepOk (view sc w) c 0 sc′ w′ acts
   primed-ok sc′ w′ q p =
       assemble sc w c 0 sc′ w′ acts g (heads-same g q) (p .good .wide) (p .good .short)
       (λ i. turned-calm (atPlace w i) (atPlace w′ i) (good-same q (p .good .each i)) (p .calm i))
-      (said (view sc w) (view sc′ w′) acts (q .seen)) (λ z. absurd (z refl))
+      (said (view sc′ w′) acts (q .seen)) (λ z. absurd (z refl))
 
   -- every Preparing slot from place j on enters Accept
   module _ (sc′ : Scalars) (w′ : Window) (j ballot : ℕ) (q : Same sc sc′) (p : Primed sc w w′) (e : ballot ≡ sc .«bal_max_seen») where
@@ -185,8 +185,8 @@ module _ (sc : Scalars) (w : Window) (c : Call) (g : Good sc w) (h : leads sc �
         (pick-cases (All (ActOk (view sc w) c (view sc′ entered) all)) (eqb (atPlace w′ i .status) preparing)
         (λ s.
         let z : atPlace w′ i .status ≡ 1 = eqb-true (atPlace w′ i .status) 1 s in (
-          record { top = e ∙ sym (q .seen); held = entered-held i a b z; why = led own (was-below i z) h e },
-          (record { own = own; logged = entry-in i a b z; tidy = p .good .each i .tidy }, tt),
+          (record { top = e ∙ sym (q .seen); held = entered-held i a b z; why = led own (was-below i z) h e }, ((omega arith, omega (arith, p .good .short)), p .good .each i .tidy)),
+          ((record { own = own; logged = entry-in i a b z; tidy = p .good .each i .tidy }, tt), tt),
         ))
         (λ _. tt))
 
@@ -194,7 +194,7 @@ module _ (sc : Scalars) (w : Window) (c : Call) (g : Good sc w) (h : leads sc �
     entered-ok =
         assemble sc w c 0 sc′ entered all g (heads-same g q)
         (sweep-long (λ i s. enteredSlot s) j (w′ .len) w′ ∙ p .good .wide) (p .good .short) entered-each
-        (all-append (ActOk (view sc w) c (view sc′ entered) all) acts (gather enters j (w′ .len)) (said (view sc w) (view sc′ entered) all (q .seen))
+        (all-append (ActOk (view sc w) c (view sc′ entered) all) acts (gather enters j (w′ .len)) (said (view sc′ entered) all (q .seen))
         (all-gather enters (ActOk (view sc w) c (view sc′ entered) all) j (w′ .len) entered-said))
         (λ z. absurd (z refl))
 
@@ -253,9 +253,10 @@ replyOn-ok r c g peer m t =
     wide : Answers r m → Primed (r .sc) (r .window) (replyWindow r m)
     wide f = appended-primed r i j g (f .leading) (reply-place r m f)
 
-    said : Answers r m → (v v′ : View) (all : List Act) → v′ .seen ≡ r .sc .«bal_max_seen» → All (ActOk v c v′ all) (appendActs r i)
-    said f v v′ all s =
-        all-gather (λ k. promise (number (r .sc) k) (r .sc .«bal_prep_sent») ∷ []) (ActOk v c v′ all) (r .window .len) (i + 1) (λ k _ _. (omega (arith, s, g .sent (f .leading)), tt))
+    said : Answers r m → (v′ : View) (all : List Act) → v′ .seen ≡ r .sc .«bal_max_seen» → All (ActOk (view (r .sc) (r .window)) c v′ all) (appendActs r i)
+    said f v′ all s =
+        all-gather (λ k. promise (number (r .sc) k) (r .sc .«bal_prep_sent») ∷ []) (ActOk (view (r .sc) (r .window)) c v′ all) (r .window .len) (i + 1)
+        (λ k _ b. ((omega (arith, s, g .sent (f .leading)), ((omega arith, omega (arith, reply-place r m f)), refl)), tt))
 
     primed : Answers r m → (w : Window) → Primed (r .sc) (r .window) w → StepOk (view (r .sc) (r .window)) c 0 (tabledSc r peer m) w (appendActs r i)
     primed f w p = primed-ok (r .sc) (r .window) c g (f .leading) (appendActs r i) (said f) (tabledSc r peer m) w (tabled-same (r .sc) (r .bars) peer (m .bar)) p

@@ -105,11 +105,11 @@ module _ (r : Replica) (c : Call) (g : GoodReplica r) where
       (λ _. turned-self (atPlace (r .window) i) (good-same q (g .each i))))
       (all-append plain (gather (λ i. passActs (number (r .sc) i) (slotAt (r .window) i)) (passFrom r) (passStop r)) _
       (all-gather (λ i. passActs (number (r .sc) i) (slotAt (r .window) i)) plain (passFrom r) (passStop r)
-      (λ i _ _. pick-both (All plain) (eqb (slotAt (r .window) i .batch .id) 0 || not (eqb (slotAt (r .window) i .status) committed)) tt (tt, tt)))
+      (λ i _ _. pick-both (All plain) (eqb (slotAt (r .window) i .batch .id) 0 || not (eqb (slotAt (r .window) i .status) committed)) tt ((tt, tt), tt)))
       (pick-both (All plain) (eqb (passFrom r) (passStop r)) tt
       (pick-both (All plain)
       (eqb (number (r .sc) (passStop r)) (logEnd r) && (leads (r .sc) &&
-      (ltb 0 (r .sc .«bal_prepared») && (eqb (r .sc .«bal_prepared») (r .sc .«bal_max_seen») && urgent (r .sc))))) (tt, tt) tt)))
+      (ltb 0 (r .sc .«bal_prepared») && (eqb (r .sc .«bal_prepared») (r .sc .«bal_max_seen») && urgent (r .sc))))) ((tt, tt), tt) tt)))
       (λ z. absurd (z refl))
 
   -- an AcceptData entry, before accept_bar moves
@@ -118,7 +118,7 @@ module _ (r : Replica) (c : Call) (g : GoodReplica r) where
   completed-ok i slot at h _ _ completes-silent = idle-ok (r .sc) (r .window) c 0 [] g (λ _ _ _ _. tt) (λ _. refl)
   completed-ok i slot at h _ _ (completes-more b a q) = acked-ok (r .sc) (r .window) c g slot i at h (r .sc .id)
   completed-ok i slot at h _ _ (completes-commit b a q) = marked-ok (r .sc) (r .window) c g slot i at h (r .sc .id) (a .status) (a .leading)
-  completed-ok i slot at h _ _ (completes-report n p) = idle-ok (r .sc) (r .window) c 0 _ g (λ _ _ _ _. (tt, tt)) (λ z. absurd (z refl))
+  completed-ok i slot at h _ _ (completes-report n p) = idle-ok (r .sc) (r .window) c 0 _ g (λ _ _ _ _. ((tt, tt), tt)) (λ z. absurd (z refl))
 
 -- accept_bar moves
 moved-ok : (v : View) (c : Call) (r : Replica) (slot : ℕ) (acts : List Act) → StepOk v c 0 (r .sc) (r .window) acts
@@ -187,7 +187,7 @@ loggedStep-ok r c g room d =
     let own : Outcome = replyOn r′ (r′ .sc .id) (ownReply (r′ .sc) (loggedAt r d) (d .slot)) in
     pick-cases (Ok r c) (eqb (own .answer) 0) (λ _. from-logged r g d f c _ _ _ _ (replyOn-ok r′ c (logged-good r g d f) (r′ .sc .id) (ownReply (r′ .sc) (loggedAt r d) (d .slot)) (tidy-vote r g d f)))
     (λ _. kept-ok r c g (own .answer)))
-    (λ f e n p. from-logged r g d f c 0 _ _ _ (idle-ok (r′ .sc) (r′ .window) c 0 _ (logged-good r g d f) (λ _ _ _ _. (tt, tt)) (λ z. absurd (z refl))))
+    (λ f e n p. from-logged r g d f c 0 _ _ _ (idle-ok (r′ .sc) (r′ .window) c 0 _ (logged-good r g d f) (λ _ _ _ _. ((tt, tt), tt)) (λ z. absurd (z refl))))
     (λ f e after acts k. moved-ok _ c after (d .slot) acts
     (from-logged r g d f c 0 _ _ _ (completed-ok r′ c (logged-good r g d f) (place (r .sc) (d .slot)) (d .slot) (logged-at r g d f) (logged-in r g d f) after acts k)))
     (λ f e at. from-logged r g d f c 0 _ _ _ (passed-ok r′ c (logged-good r g d f)))
@@ -227,8 +227,8 @@ module _ (sc : Scalars) (w : Window) (c : Call) (g : Good sc w) (i slot : ℕ) (
   offered-ok : StepOk (view sc w) c 0 sc offeredW offers
   offered-ok =
       assemble sc w c 0 sc offeredW offers g (heads-same g (same-self sc)) (put-long w i offered ∙ g .wide) (g .short) offered-each (
-        record { top = top; held = offered-held; why = led offered-own (at-number (λ (x : Cell). x .status < 2) (sc .start) w slot i at null) lead top },
-        (record { own = offered-own; logged = List·Memᴰ·head refl; tidy = t }, tt),
+        (record { top = top; held = offered-held; why = led offered-own (at-number (λ (x : Cell). x .status < 2) (sc .start) w slot i at null) lead top }, ((omega arith, omega (arith, g .short)), t)),
+        ((record { own = offered-own; logged = List·Memᴰ·head refl; tidy = t }, tt), tt),
       )
       (λ z. absurd (z refl))
 
@@ -285,4 +285,4 @@ readReplyStep-ok r c g room peer id fromLeader reply =
     answered : (d : Read) (n : ℕ) → Ok r c (closed r (readPlace r id) d n)
     answered d n =
         idle-ok (r .sc) (r .window) c 0 (gather (λ k. answerAct (r .sc .leader) d k ∷ []) 0 n) g
-        (λ v c v′ all. all-gather (λ k. answerAct (r .sc .leader) d k ∷ []) (ActOk v c v′ all) 0 n (λ _ _ _. (tt, tt))) (λ z. absurd (z refl))
+        (λ v c v′ all. all-gather (λ k. answerAct (r .sc .leader) d k ∷ []) (ActOk v c v′ all) 0 n (λ _ _ _. ((tt, tt), tt))) (λ z. absurd (z refl))

@@ -34,8 +34,9 @@ use Rattle.replica.specs.Durability.{preparedDone, movedAccept, acceptedDone, p
 use Rattle.replica.specs.Quorumread.{openReadStep, repliedStep, readReplyStep}
 use Rattle.replica.specs.Added.{offerStep, movedExec, executedStep}
 use Rattle.replica.specs.Step.{Call, callAccept, callCommitNotice, callTimeout, callLogged, callOffer, step, received}
+use Rattle.laws.specs.WaysDurability.{completion}
 use Rattle.agreement.specs.BySlot.{numbered}
-use Rattle.agreement.specs.Theorem.{Group, Mark, World, marksOf, upd, put, begin, May, timer, offer, logged, message, Reach, begins, turn, acceptEntry}
+use Rattle.agreement.specs.Theorem.{Group, Mark, World, marksOf, upd, put, begin, May, timer, offer, logged, message, Reach, begins, turn, acceptEntry, commitEntry}
 use Rattle.agreement.specs.Local.{acceptSent}
 use Rattle.agreement.specs.Written.{line, lines}
 
@@ -43,13 +44,13 @@ use Rattle.agreement.specs.Written.{line, lines}
 pub data Turn : Type 0 where
   times : (m source : ℕ) → Turn
   offers : (m : ℕ) → Batch → Turn
-  logs : (m : ℕ) → Entry → (slot size : ℕ) → Turn
+  logs : (m : ℕ) → Entry → (slot ballot size : ℕ) → Turn
   gets : (m from k : ℕ) → Turn
 
 abbrev pub who : Turn → ℕ
 who (times m source) = m
 who (offers m b) = m
-who (logs m e slot size) = m
+who (logs m e slot ballot size) = m
 who (gets m from k) = m
 
 abbrev pub does : World → ℕ → Call → World
@@ -65,7 +66,7 @@ thing w from k = getD (w .did from) k (bare StatusUp)
 unfoldable pub happen : World → Turn → World
 happen w (times m source) = does w m (callTimeout source)
 happen w (offers m b) = does w m (callOffer b)
-happen w (logs m e slot size) = does w m (callLogged (record { entry = e; slot = slot; size = size }))
+happen w (logs m e slot ballot size) = does w m (callLogged (completion e slot ballot size))
 happen w (gets m from k) = deliver w m (received from (thing w from k))
 
 unfoldable pub play : World → List Turn → World
@@ -100,7 +101,7 @@ happen-reach : (g : Group) (w : World) → Reach g w → (t : Turn) → g .prese
 unfolding happen
 happen-reach g w r (times m source) p = turn r m p 3456 _ (timer source)
 happen-reach g w r (offers m b) p = turn r m p 3456 _ (offer b)
-happen-reach g w r (logs m e slot size) p = turn r m p 3456 _ (logged _)
+happen-reach g w r (logs m e slot ballot size) p = turn r m p 3456 _ (logged _)
 happen-reach g w r (gets m from k) p = gets-reach g w r m p from k (getD-in (w .did from) k (bare StatusUp))
 
 unfoldable pub allPresent : Group → List Turn → Bool
@@ -127,20 +128,20 @@ seven = record { id = 7; count = 1; keys = 5 ∷ replicate 7 0 }
 -- 0 leads and offers batch 7, which 1 accepts; 1 takes over with 2, and commits slots 0 (empty) and 1 (batch 7); 2 and 0 hear of it
 unfoldable pub changed : List Turn
 changed =
-    times 0 0 ∷ gets 1 0 3 ∷ logs 1 PrepareBal 0 40 ∷ logs 0 PrepareBal 0 40 ∷ gets 0 1 1 ∷ offers 0 seven ∷ gets 1 0 7
-    ∷ times 1 0 ∷ gets 2 1 7 ∷ logs 2 PrepareBal 0 40 ∷ logs 1 PrepareBal 0 80 ∷ logs 1 PrepareBal 1 120 ∷ gets 1 2 1
-    ∷ gets 2 1 9 ∷ gets 2 1 11 ∷ logs 2 AcceptData 0 80 ∷ logs 2 AcceptData 1 120 ∷ logs 1 AcceptData 0 160 ∷ logs 1 AcceptData 1 200
-    ∷ gets 1 2 4 ∷ gets 1 2 5 ∷ logs 1 CommitSlot 0 240 ∷ gets 2 1 15 ∷ gets 0 1 9 ∷ gets 0 1 11 ∷ gets 0 1 15 ∷ []
+    times 0 0 ∷ gets 1 0 3 ∷ logs 1 PrepareBal 0 257 40 ∷ logs 0 PrepareBal 0 257 40 ∷ gets 0 1 1 ∷ offers 0 seven ∷ gets 1 0 7
+    ∷ times 1 0 ∷ gets 2 1 7 ∷ logs 2 PrepareBal 0 514 40 ∷ logs 1 PrepareBal 0 514 80 ∷ logs 1 PrepareBal 1 514 120 ∷ gets 1 2 1
+    ∷ gets 2 1 9 ∷ gets 2 1 11 ∷ logs 2 AcceptData 0 514 80 ∷ logs 2 AcceptData 1 514 120 ∷ logs 1 AcceptData 0 514 160 ∷ logs 1 AcceptData 1 514 200
+    ∷ gets 1 2 4 ∷ gets 1 2 5 ∷ logs 1 CommitSlot 0 514 240 ∷ gets 2 1 15 ∷ gets 0 1 9 ∷ gets 0 1 11 ∷ gets 0 1 15 ∷ []
 
--- a deposed leader's Accept is answered after a newer Prepare ("a log completion here names no ballot"): 1 commits slot 1 empty at ballot 514
+-- a deposed leader's Accept is answered after a newer Prepare, since the completion's ballot, 257, is ignored: 1 commits slot 1 empty at ballot 514
 -- with the answer of 2, which accepted batch 7 at 257 only; then 2 takes over and commits slot 1 with batch 7 at ballot 771
 unfoldable pub late : List Turn
 late =
-    times 0 0 ∷ gets 1 0 3 ∷ logs 1 PrepareBal 0 40 ∷ logs 0 PrepareBal 0 40 ∷ gets 0 1 1 ∷ offers 0 seven ∷ gets 2 0 7
-    ∷ times 1 0 ∷ gets 2 1 5 ∷ logs 2 AcceptData 1 40 ∷ gets 0 1 5 ∷ logs 0 PrepareBal 0 80 ∷ logs 0 PrepareBal 1 120 ∷ logs 1 PrepareBal 0 80
-    ∷ gets 1 0 11 ∷ gets 1 0 12 ∷ logs 1 AcceptData 1 120 ∷ gets 1 2 3
-    ∷ times 2 1 ∷ gets 0 2 8 ∷ logs 0 PrepareBal 0 160 ∷ logs 0 PrepareBal 1 200 ∷ logs 2 PrepareBal 0 80 ∷ logs 2 PrepareBal 1 120 ∷ gets 2 0 16
-    ∷ logs 2 AcceptData 1 160 ∷ gets 0 2 12 ∷ logs 0 AcceptData 1 240 ∷ gets 2 0 18 ∷ []
+    times 0 0 ∷ gets 1 0 3 ∷ logs 1 PrepareBal 0 257 40 ∷ logs 0 PrepareBal 0 257 40 ∷ gets 0 1 1 ∷ offers 0 seven ∷ gets 2 0 7
+    ∷ times 1 0 ∷ gets 2 1 5 ∷ logs 2 AcceptData 1 257 40 ∷ gets 0 1 5 ∷ logs 0 PrepareBal 0 514 80 ∷ logs 0 PrepareBal 1 514 120 ∷ logs 1 PrepareBal 0 514 80
+    ∷ gets 1 0 11 ∷ gets 1 0 12 ∷ logs 1 AcceptData 1 514 120 ∷ gets 1 2 3
+    ∷ times 2 1 ∷ gets 0 2 8 ∷ logs 0 PrepareBal 0 771 160 ∷ logs 0 PrepareBal 1 771 200 ∷ logs 2 PrepareBal 0 771 80 ∷ logs 2 PrepareBal 1 771 120 ∷ gets 2 0 16
+    ∷ logs 2 AcceptData 1 771 160 ∷ gets 0 2 12 ∷ logs 0 AcceptData 1 771 240 ∷ gets 2 0 18 ∷ []
 
 abbrev pub mark : ℕ → ℕ → ℕ → Batch → Mark
 mark who slot ballot b = record { who = who; slot = slot; ballot = ballot; batch = b }
@@ -165,14 +166,16 @@ further zero l m = m
 further (suc k) [] m = m
 further (suc k) (y ∷ l) m = List·Memᴰ·tail (further k l m)
 
--- member 0 writes batch 7 for slot 1 at its ballot 257; then all three mark slot 1 with it, at ballot 514 of member 1
+-- member 0 writes batch 7 for slot 1 at its ballot 257; then all three mark slot 1 with it, at ballot 514 of member 1, whose log says so
 pub record ThreeMarked (w : World) : Type 0 where
   pub offered : acceptEntry 1 257 seven ∈ w .did 0
+  pub committed : commitEntry 1 514 ∈ w .did 1
   pub marks : w .marks ≡ mark 1 0 514 emptyBatch ∷ mark 1 1 514 seven ∷ mark 2 0 514 emptyBatch ∷ mark 2 1 514 seven ∷ mark 0 0 514 emptyBatch ∷ mark 0 1 514 seven ∷ []
 
 pub three-marked : ThreeMarked changedWorld
 unfolding play happen deliver changed three begin put upd marksOf atPlace numbered newReplica fit fitScalars fitSlots fitReads fitSlot filled noting settled prepareOn prepareStep lastUsed countedOn votedOn repliedOn replyOn prepareReplyStep acceptStep acceptReplyStep firstOpen lastOpen leadOn stepUp timeoutStep markOn markStop commitNoticeStep preparedDone movedAccept acceptedDone passOn passStop committedDone loggedOn loggedStep openReadStep repliedStep readReplyStep offerStep movedExec executedStep decideAccept decideAcceptReply decideVote decideCount decidePromised decideAccepted decideOffer notAbove leastMajority withBar withFallen has insert count countIn makeBatch noteKey noteKeys newKeys placeIn overfullIn merge findRead openRead closeRead putRead replyTo scan
-three-marked = record { offered = further 6 (changedWorld .did 0) (List·Memᴰ·head refl); marks = refl }
+three-marked =
+    record { offered = further 6 (changedWorld .did 0) (List·Memᴰ·head refl); committed = further 13 (changedWorld .did 1) (List·Memᴰ·head refl); marks = refl }
 
 -- demand 3 makes no claim across ballots, and none holds: slot 1 is marked with two batches, and accept entries for it name two
 pub record TwoBatches (w : World) : Type 0 where
@@ -216,7 +219,7 @@ unfoldable pub alone : Group
 alone = record { size = 1; start = 0; options = λ m. 0; present = λ m. ltb m 1; made = alone-made }
 
 unfoldable pub once : Batch → List Turn
-once b = times 0 0 ∷ logs 0 PrepareBal 0 40 ∷ offers 0 b ∷ []
+once b = times 0 0 ∷ logs 0 PrepareBal 0 257 40 ∷ offers 0 b ∷ []
 
 pub one-id : (acceptEntry 1 257 seven ∈ play (begin alone) (once seven) .did 0) × (acceptEntry 1 257 eight ∈ play (begin alone) (once eight) .did 0)
 unfolding play happen deliver once alone begin put upd marksOf atPlace numbered newReplica fit fitScalars fitSlots fitReads fitSlot filled noting settled prepareOn prepareStep lastUsed countedOn votedOn repliedOn replyOn prepareReplyStep acceptStep acceptReplyStep firstOpen lastOpen leadOn stepUp timeoutStep markOn markStop commitNoticeStep preparedDone movedAccept acceptedDone passOn passStop committedDone loggedOn loggedStep openReadStep repliedStep readReplyStep offerStep movedExec executedStep decideAccept decideAcceptReply decideVote decideCount decidePromised decideAccepted decideOffer notAbove leastMajority withBar withFallen has insert count countIn makeBatch noteKey noteKeys newKeys placeIn overfullIn merge findRead openRead closeRead putRead replyTo scan
@@ -247,7 +250,7 @@ late-entries =
 -- the same run up to its first mark; then member 0, who accepted batch 7 at 257 as a leader and told nobody, takes the Accept at 514 too, and
 -- its log is reported durable
 unfoldable pub twice : List Turn
-twice = take 18 late ++ (gets 0 1 10 ∷ logs 0 AcceptData 1 160 ∷ [])
+twice = take 18 late ++ (gets 0 1 10 ∷ logs 0 AcceptData 1 514 160 ∷ [])
 
 abbrev pub twiceWorld : World
 twiceWorld = play (begin three) twice

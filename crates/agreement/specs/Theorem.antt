@@ -2,7 +2,8 @@
 -- rest. Timers fire, batches arrive and log completions are reported at any moment. A message sent may be lost, repeated or overtaken, but
 -- arrives unchanged under its true sender, and none is made up. Then: the ballots in the prepare and accept entries each replica writes to its
 -- log never fall; any two accept entries in any logs for one slot and ballot name one batch; two replicas that mark a slot committed at one
--- ballot hold the same batch in it as they mark it. (No claim across ballots: a log completion here names no ballot.)"
+-- ballot hold the same batch in it as they mark it. (No claim across ballots: a log completion here names no ballot.)" Since 02's fifth wish it names
+-- one, which this kind of replica ignores (Ignored).
 use mathlib.Core.Path.{_≡_}
 use mathlib.Core.Bool.{Bool, true, _&&_}
 use mathlib.Core.List.{List, [], _∷_, _++_}
@@ -126,8 +127,9 @@ NeverFalls (b ∷ l) = All (λ c. b ≤ c) l × NeverFalls l
 abbrev pub acceptEntry : ℕ → ℕ → Batch → Act
 acceptEntry slot ballot b = act (AcceptData (proposal slot ballot b)) (b .keys)
 
-abbrev pub commitEntry : ℕ → Act
-commitEntry slot = bare (CommitSlot (record { slot = slot }))
+-- the commit entry for a slot at a ballot
+abbrev pub commitEntry : ℕ → ℕ → Act
+commitEntry slot ballot = bare (CommitSlot (record { slot = slot; ballot = ballot }))
 
 -- (a), (b) and (c). One batch: the same id, count and key numbers, so the same id and list
 pub record Agreement (w : World) : Type 0 where

@@ -34,6 +34,7 @@ use Rattle.actions.specs.declared.Action.the-variants.{PrepareBal, AcceptData, 
 use Rattle.actions.specs.Actions.{Act, bare}
 use Rattle.replica.specs.declared.Replica.{Replica}
 use Rattle.replica.specs.Step.{Call, callTimeout, callLogged, callOffer, callAcceptReply, step, received}
+use Rattle.laws.specs.WaysDurability.{completion}
 use Rattle.voting.specs.Paper.{Chosen}
 use Rattle.voting.specs.Quorums.{commitOf}
 use Rattle.agreement.specs.BySlot.{numbered}
@@ -79,7 +80,7 @@ fairCalls w m (c ∷ l) = fairCall w m c
 unfoldable pub fairTurn : World → Turn → Bool
 fairTurn w (times m source) = fairCall w m (callTimeout source)
 fairTurn w (offers m b) = fairCall w m (callOffer b)
-fairTurn w (logs m e slot size) = fairCall w m (callLogged (record { entry = e; slot = slot; size = size }))
+fairTurn w (logs m e slot ballot size) = fairCall w m (callLogged (completion e slot ballot size))
 fairTurn w (gets m from k) = fairCalls w m (received from (thing w from k))
 
 unfoldable pub fairRun : World → List Turn → Bool
@@ -112,7 +113,7 @@ happen-true : (g : Group) (w : World) → TrueReach g w → (t : Turn) → g .pr
 unfolding happen fairTurn
 happen-true g w r (times m source) p f = one-turn g w r m p _ (timer source) f
 happen-true g w r (offers m b) p f = one-turn g w r m p _ (offer b) f
-happen-true g w r (logs m e slot size) p f = one-turn g w r m p _ (logged _) f
+happen-true g w r (logs m e slot ballot size) p f = one-turn g w r m p _ (logged _) f
 happen-true g w r (gets m from k) p f = gets-true g w r m p from k f (getD-in (w .did from) k (bare StatusUp))
 
 pub play-true : (g : Group) (l : List Turn) (w : World) → TrueReach g w → allPresent g l ≡ true → fairRun w l ≡ true → TrueReach g (play w l)
@@ -158,7 +159,7 @@ pub reply-was-sent : lastReply ∈ commitWorld .did 2
 unfolding untilCommit play happen deliver changed three begin put upd marksOf atPlace numbered newReplica fit fitScalars fitSlots fitReads fitSlot filled noting settled prepareOn prepareStep lastUsed countedOn votedOn repliedOn replyOn prepareReplyStep acceptStep acceptReplyStep firstOpen lastOpen leadOn stepUp timeoutStep markOn markStop commitNoticeStep preparedDone movedAccept acceptedDone passOn passStop committedDone loggedOn loggedStep openReadStep repliedStep readReplyStep offerStep movedExec executedStep decideAccept decideAcceptReply decideVote decideCount decidePromised decideAccepted decideOffer notAbove leastMajority withBar withFallen has insert count countIn makeBatch noteKey noteKeys newKeys placeIn overfullIn merge findRead openRead closeRead putRead replyTo scan
 reply-was-sent = further 5 (commitWorld .did 2) (List·Memᴰ·head refl)
 
-pub commit-met : commitOf 1 ∈ step (commitWorld .replica 1) 3456 (callAcceptReply 2 1 514) .actions
+pub commit-met : commitOf 1 514 ∈ step (commitWorld .replica 1) 3456 (callAcceptReply 2 1 514) .actions
 unfolding untilCommit play happen deliver changed three begin put upd marksOf atPlace numbered newReplica fit fitScalars fitSlots fitReads fitSlot filled noting settled prepareOn prepareStep lastUsed countedOn votedOn repliedOn replyOn prepareReplyStep acceptStep acceptReplyStep firstOpen lastOpen leadOn stepUp timeoutStep markOn markStop commitNoticeStep preparedDone movedAccept acceptedDone passOn passStop committedDone loggedOn loggedStep openReadStep repliedStep readReplyStep offerStep movedExec executedStep decideAccept decideAcceptReply decideVote decideCount decidePromised decideAccepted decideOffer notAbove leastMajority withBar withFallen has insert count countIn makeBatch noteKey noteKeys newKeys placeIn overfullIn merge findRead openRead closeRead putRead replyTo scan
 commit-met = List·Memᴰ·head refl
 
@@ -168,4 +169,4 @@ one-present = refl
 
 pub changed-chosen : Chosen (three .size) (accepted commitWorld 1) (proposalAt commitWorld 1 1)
 changed-chosen =
-    commit-chosen three commitWorld (until-true .0) (until-true .1) 1 one-present 1 3456 2 514 (message 2 lastReply _ reply-was-sent (List·Memᴰ·head refl)) commit-met
+    commit-chosen three commitWorld (until-true .0) (until-true .1) 1 one-present 1 514 3456 2 514 (message 2 lastReply _ reply-was-sent (List·Memᴰ·head refl)) commit-met

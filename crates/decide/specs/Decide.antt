@@ -41,7 +41,7 @@ abbrev pub awaitsAccept : Scalars → Slot → ℕ → Bool
 awaitsAccept sc s ballot = leads sc && (eqb (s .status) accepting && leb (s .ballot) ballot)
 
 -- 01: "AcceptReply commits exactly if self leads, ballot = bal_prepared, status is Accepting, the slot's ballot is not larger, the sender
--- is new and its bit makes the quorum." From the asserts on, at a ballot that is bal_prepared.
+-- is new and its bit makes the quorum." From the asserts on, at a ballot that is bal_prepared. The entry says the slot's ballot, which stays
 unfoldable pub decideAcceptReply : Scalars → Slot → ℕ → ℕ → ℕ → Decided
 decideAcceptReply sc s peer slot ballot =
     pick (not (awaitsAccept sc s ballot)) (silent 0 sc s)
@@ -53,7 +53,7 @@ decideAcceptReply sc s peer slot ballot =
       noted = false;
       sc = sc;
       slot = committedSlot (acknowledgedSlot peer s);
-      says = One (CommitSlot (record { slot = slot }));
+      says = One (CommitSlot (record { slot = slot; ballot = s .ballot }));
       keys = noKeys;
     }))))
 

@@ -68,7 +68,7 @@ module _ (sc : Scalars) (s : Slot) (peer slot ballot : ℕ) where
 
       pub reply-quorum : (s″ : Slot) → q ≤ n → s″ ≡ committedSlot s′
           → decideAcceptReply sc s peer slot ballot
-          ≡ record { answer = 0; noted = false; sc = sc; slot = s″; says = One (CommitSlot (record { slot = slot })); keys = noKeys }
+          ≡ record { answer = 0; noted = false; sc = sc; slot = s″; says = One (CommitSlot (record { slot = slot; ballot = s .ballot })); keys = noKeys }
       unfolding decideAcceptReply contradicted
       reply-quorum s″ l d = rw (a, k, h, few false (le-ltb n q l), d, e)
 

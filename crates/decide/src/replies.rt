@@ -150,7 +150,10 @@ impl Scalars {
             noted: false,
             sc: self,
             slot: done,
-            says: Says::One(Action::CommitSlot(Mark { slot: slot })),
+            says: Says::One(Action::CommitSlot(Mark {
+                slot: slot,
+                ballot: s.ballot,
+            })),
             keys: [0; 8],
         }
     }

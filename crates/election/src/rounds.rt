@@ -15,8 +15,8 @@ fn of(a: Seat, b: Seat, c: Seat) -> Group {
 
 // A member finishes the commits of two slots.
 fn commits(s: Seat, room: &mut [u64], first: u64, second: u64) -> Seat {
-    let t = s.logged(room, Entry::CommitSlot, first, 200);
-    t.logged(room, Entry::CommitSlot, second, 240)
+    let t = s.logged(room, Entry::CommitSlot, first, 257, 200);
+    t.logged(room, Entry::CommitSlot, second, 257, 240)
 }
 
 impl Group {
@@ -44,9 +44,9 @@ impl Group {
         let a = self.a;
         let b = self.b;
         let c = self.c;
-        let a1 = a.logged(room, entry, slot, size);
-        let b1 = b.logged(room, entry, slot, size);
-        let c1 = c.logged(room, entry, slot, size);
+        let a1 = a.logged(room, entry, slot, 257, size);
+        let b1 = b.logged(room, entry, slot, 257, size);
+        let c1 = c.logged(room, entry, slot, 257, size);
         of(a1, b1, c1)
     }
 
@@ -92,7 +92,7 @@ impl Group {
         let a = self.a;
         let b = self.b;
         let c = self.c;
-        let a1 = a.logged(room, Entry::CommitSlot, slot, size);
+        let a1 = a.logged(room, Entry::CommitSlot, slot, 257, size);
         of(a1, b, c)
     }
 

@@ -112,10 +112,18 @@ impl Seat {
         self.after(room, h)
     }
 
-    pub(crate) fn logged(self, room: &mut [u64], entry: Entry, slot: u64, size: u64) -> Seat {
+    pub(crate) fn logged(
+        self,
+        room: &mut [u64],
+        entry: Entry,
+        slot: u64,
+        ballot: u64,
+        size: u64,
+    ) -> Seat {
         let done = Done {
             entry: entry,
             slot: slot,
+            ballot: ballot,
             size: size,
         };
         let r = self.replica;

@@ -19,10 +19,11 @@ use Rattle.replica.specs.Messages.{countedOn, votedOn, repliedOn, replyOn, prep
 use Rattle.replica.specs.Leadership.{leadOn, stepUp, timeoutStep}
 use Rattle.replica.specs.Durability.{preparedDone, loggedOn, loggedStep}
 use Rattle.replica.specs.Step.{callTimeout, callLogged, callPrepareReply, step}
+use Rattle.laws.specs.WaysDurability.{completion}
 
 -- member 0 steps up, and its PrepareBal of slot 0 is durable
 unfoldable pub waiting : Replica
-waiting = step (step (newReplica 0 3 0 0 .replica) 3456 (callTimeout 0) .replica) 3456 (callLogged (record { entry = PrepareBal; slot = 0; size = 40 })) .replica
+waiting = step (step (newReplica 0 3 0 0 .replica) 3456 (callTimeout 0) .replica) 3456 (callLogged (completion PrepareBal 0 257 40)) .replica
 
 -- member 1's reply for slot 63, its endprep
 unfoldable pub largest : Outcome

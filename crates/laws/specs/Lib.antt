@@ -22,6 +22,8 @@ pub mod Theorems
 pub mod Summaries
 pub mod Falls
 pub mod SummaryRuns
+pub mod BallotIgnored
+pub mod CommitBallots
 pub mod OpenReads
 pub mod AnyOrder
 pub mod InARow

@@ -37,7 +37,7 @@ decideAccept-ways P sc s peer slot ballot b six on = pick-cases P (ltb ballot (s
 -- ── an AcceptReply counted ──
 abbrev pub commits : Scalars → Slot → ℕ → ℕ → Decided
 commits sc s peer slot =
-    record { answer = 0; noted = false; sc = sc; slot = committedSlot (acknowledgedSlot peer s); says = One (CommitSlot (record { slot = slot })); keys = noKeys }
+    record { answer = 0; noted = false; sc = sc; slot = committedSlot (acknowledgedSlot peer s); says = One (CommitSlot (record { slot = slot; ballot = s .ballot })); keys = noKeys }
 
 -- 01: "AcceptReply commits exactly if self leads, .. status is Accepting, .. the sender is new"
 pub record Acknowledges (sc : Scalars) (s : Slot) (peer ballot : ℕ) : Type 0 where

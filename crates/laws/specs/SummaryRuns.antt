@@ -28,6 +28,7 @@ use Rattle.replica.specs.Durability.{preparedDone, movedAccept, acceptedDone, p
 use Rattle.replica.specs.Added.{offerStep, movedExec, executedStep}
 use Rattle.replica.specs.ActingLaws.{withSummary}
 use Rattle.replica.specs.Step.{Call, callPrepare, callAccept, callCommitNotice, callTimeout, callLogged, callExecuted, step}
+use Rattle.laws.specs.WaysDurability.{completion}
 use Rattle.laws.specs.Theorems.{unsummed}
 
 -- the replica after calls
@@ -49,10 +50,10 @@ abbrev pub prepare : Call
 prepare = callPrepare 1 0 258
 
 abbrev pub acceptLogged : Call
-acceptLogged = callLogged (record { entry = AcceptData; slot = 0; size = 40 })
+acceptLogged = callLogged (completion AcceptData 0 257 40)
 
 abbrev pub commitLogged : Call
-commitLogged = callLogged (record { entry = CommitSlot; slot = 0; size = 80 })
+commitLogged = callLogged (completion CommitSlot 0 257 80)
 
 -- calls, and the summary after them
 pub record Row : Type 0 where

@@ -31,6 +31,10 @@ use Rattle.laws.specs.Leaves.{done, put-back, settled-silent}
 use Rattle.laws.specs.OfDecide.{commits, promises, reports, Acknowledges, decidePromised-ways, decideAccepted-ways}
 use Rattle.laws.specs.WaysMessages.{KeepsFor, unready-keeping, unready-some, ready-fit}
 
+-- a completion by its parts
+abbrev pub completion : Entry → ℕ → ℕ → ℕ → Done
+completion entry slot ballot size = record { entry = entry; slot = slot; ballot = ballot; size = size }
+
 -- two kinds of entry are not one
 pub other-entry : {A : Type 0} (a b : Entry) → eqb (entryNumber a) (entryNumber b) ≡ false → a ≡ b → A
 other-entry a b n e = absurd (clash (eq-eqb _ _ (ap entryNumber e)) n)

@@ -1,4 +1,4 @@
--- The call that a record of each kind names, and the ways of playing one.
+-- The call that a record of each kind names, the ways of playing one, and that kind 8's ballot makes no difference.
 use mathlib.Core.Path.{_≡_, sym, _∙_}
 use mathlib.Core.Bool.{Bool, true, false}
 use mathlib.Core.List.{List}
@@ -12,6 +12,7 @@ use Rattle.replica.specs.declared.Replica.{Replica}
 use Rattle.replica.specs.declared.Made.{Made}
 use Rattle.replica.specs.declared.Done.{Done}
 use Rattle.replica.specs.Record.{kept, newReplica}
+use Rattle.replica.specs.Durability.{loggedStep}
 use Rattle.replica.specs.Step.{callPrepare, callPrepareReply, callAccept, callAcceptReply, callCommitNotice, callTimeout, callLogged, callOffer, callExecuted, callOpenRead, callReadReply, step}
 use Rattle.trace.specs.declared.Record.{Record}
 use Rattle.trace.specs.Records.{keysOf, malformed, recordAt, sumRight}
@@ -81,6 +82,30 @@ module _ (r : Replica) (n : ℕ) (d : Record) where
   pub plays-call : (right b : Bool) → b ≡ malformed d right → b ≡ false → (d .kind ≡ 0 → ⊥) → played r n d right ≡ step r n (callOf d)
   unfolding played
   plays-call right b e f g = rw (sym e ∙ f, ne-eqb (d .kind) 0 g)
+
+-- ── kind 8's ballot: 02, Wish 5, "The base replica still ignores it" ──
+
+-- the record with another ballot
+abbrev pub withBallot : Record → ℕ → Record
+withBallot d b =
+    record {
+      kind = d .kind;
+      peer = d .peer;
+      sub = d .sub;
+      count = d .count;
+      slot = d .slot;
+      trigger = d .trigger;
+      endprep = d .endprep;
+      ballot = b;
+      voted = d .voted;
+      batch = d .batch;
+      bar = d .bar;
+      entries = d .entries;
+    }
+
+pub plays-alike : (r : Replica) (n : ℕ) (d : Record) (right : Bool) (b : ℕ) → d .kind ≡ 8 → played r n (withBallot d b) right ≡ played r n d right
+unfolding played malformed callOf ownCallOf loggedStep
+plays-alike r n d right b e = rw e
 
 -- ── kind 0 ──
 

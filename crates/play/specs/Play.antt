@@ -39,12 +39,12 @@ replyOf d =
       bar = d .bar;
     }
 
--- "8 log done (sub 1 PrepareBal, 2 AcceptData, 3 CommitSlot; bar = now_size)"
+-- "8 log done (sub 1 PrepareBal, 2 AcceptData, 3 CommitSlot; bar = now_size)"; 02, Wish 5: "in the trace it stands in the ballot field of kind 8"
 abbrev pub entryOf : ℕ → Entry
 entryOf sub = pick (eqb sub 1) PrepareBal (pick (eqb sub 2) AcceptData CommitSlot)
 
 abbrev pub doneOf : Record → Done
-doneOf d = record { entry = entryOf (d .sub); slot = d .slot; size = d .bar }
+doneOf d = record { entry = entryOf (d .sub); slot = d .slot; ballot = d .ballot; size = d .bar }
 
 -- "Kinds: .. 7 offer, 8 log done, 9 executed, 10 open read, 11 read reply": what no member of the group sends
 unfoldable pub ownCallOf : Record → Call

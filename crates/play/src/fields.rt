@@ -72,6 +72,7 @@ pub(crate) fn done_of(rec: Record) -> Done
     Done {
         entry: entry,
         slot: rec.slot,
+        ballot: rec.ballot,
         size: rec.bar,
     }
 }

@@ -200,11 +200,11 @@ marked =
     (turn (callTimeout 0) 0 (plain 1 257 0 1) (numbers 10 0 0 0 0 0 ++ numbers 9 255 0 0 0 0 ++ promises 0 257 ++ numbers 4 255 0 0 0 257)
     ∷ turn (callPrepareReply 1 (reply 257)) 0 (plain 1 257 0 1) []
     ∷ turn (callPrepareReply 2 (reply 257)) 0 (plain 1 257 0 1) []
-    ∷ turn (callLogged (record { entry = PrepareBal; slot = 0; size = 40 })) 0 (plain 1 257 0 2) (numbers 2 0 0 0 0 257 ++ numbers 6 255 0 0 0 257)
+    ∷ turn (callLogged (record { entry = PrepareBal; slot = 0; ballot = 257; size = 40 })) 0 (plain 1 257 0 2) (numbers 2 0 0 0 0 257 ++ numbers 6 255 0 0 0 257)
     ∷ turn (callAcceptReply 1 0 257) 0 (plain 1 257 0 2) []
     ∷ turn (callAcceptReply 2 0 257) 0 (plain 1 257 0 2) []
     ∷ still (callAcceptReply 2 0 257) 0 (plain 1 257 0 2)
-    ∷ turn (callAcceptReply 3 0 257) 0 (plain 1 257 0 3) (numbers 3 0 0 0 0 0)
+    ∷ turn (callAcceptReply 3 0 257) 0 (plain 1 257 0 3) (numbers 3 0 0 0 0 257)
     ∷ [])
     -- "Slot and value into an empty tally holds", since 02, the value; with nothing else told it is the answer: before nothing, after it, and alone
     ∷ run 2 3 (asked ∷ told 0 (ofOne (withValue 7 9)) 0 (held 1 2 7 9) [] ∷ told 1 (ofOne Nothing) 0 [] (answers 0 2 9) ∷ [])

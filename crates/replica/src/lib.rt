@@ -44,9 +44,10 @@ pub enum Entry {
     CommitSlot,
 }
 
-// A log completion: the entry's kind and slot, and the size of the log with it.
+// A log completion: the entry's kind, slot and ballot, and the size of the log with it.
 pub struct Done {
     pub entry: Entry,
     pub slot: u64,
+    pub ballot: u64,
     pub size: u64,
 }

@@ -34,7 +34,7 @@ use Rattle.laws.specs.OfFit.{fit-facts}
 use Rattle.laws.specs.WaysMessages.{Replies, prepareStep-ways, acceptStep-ways, acceptReplyStep-ways, repliedSlot}
 use Rattle.laws.specs.WaysReply.{replyWindow, replySlot, heardWindow, countedWindow, triggerSlot, Answers, reply-place}
 use Rattle.laws.specs.WaysLeadership.{leadWindow, leadTrigger, leadEnd, leadFrom, led, Leads, timeoutStep-ways, markWindow, markFrom, markEnd, commitNoticeStep-ways, leads-up}
-use Rattle.laws.specs.WaysDurability.{logged, Logs, passFrom}
+use Rattle.laws.specs.WaysDurability.{completion, logged, Logs, passFrom}
 use Rattle.laws.specs.WaysAdded.{offerWindow, Offers, offered, offerStep-ways, executedStep-ways}
 use Rattle.laws.specs.Appended.{appended-cases, appended-low}
 use Rattle.voting.specs.Windows.{Whole, whole-put}
@@ -49,12 +49,12 @@ use Rattle.voting.specs.Reached.{Good, good-step, follows-none}
 -- 2.2, phase 2 (a): "a response .. from a majority": p's PrepareReply at bal_prep_sent, for the slot as its trigger; or self's own PrepareBal entry
 pub data PrepareAck (r : Replica) (i p : ℕ) : Call → Type 0 where
   prepare-came : (m : Reply) → m .ballot ≡ r .sc .«bal_prep_sent» → m .trigger ≡ number (r .sc) i → PrepareAck r i p (callPrepareReply p m)
-  prepare-own : (slot offset : ℕ) → p ≡ r .sc .id → PrepareAck r i p (callLogged (record { entry = PrepareBal; slot = slot; size = offset }))
+  prepare-own : (slot bal offset : ℕ) → p ≡ r .sc .id → PrepareAck r i p (callLogged (completion PrepareBal slot bal offset))
 
 -- p's AcceptReply for the slot at bal_prep_sent; or self's own AcceptData entry for it
 pub data AcceptAck (r : Replica) (i p : ℕ) : Call → Type 0 where
   accept-came : (slot ballot : ℕ) → ballot ≡ r .sc .«bal_prep_sent» → slot ≡ number (r .sc) i → AcceptAck r i p (callAcceptReply p slot ballot)
-  accept-own : (slot offset : ℕ) → p ≡ r .sc .id → slot ≡ number (r .sc) i → AcceptAck r i p (callLogged (record { entry = AcceptData; slot = slot; size = offset }))
+  accept-own : (slot bal offset : ℕ) → p ≡ r .sc .id → slot ≡ number (r .sc) i → AcceptAck r i p (callLogged (completion AcceptData slot bal offset))
 
 -- ── what is looked at ──
 pub record Standing : Type 0 where
@@ -279,11 +279,11 @@ module _ (r : Replica) (d : Done) (i : ℕ) (P A : ℕ → Type 0) (g : Good (r 
 
 prepare-own-of : (r : Replica) (i : ℕ) (d : Done) → d .entry ≡ PrepareBal → PrepareAck r i (r .sc .id) (callLogged d)
 prepare-own-of r i d e =
-    subst (λ (x : Entry). PrepareAck r i (r .sc .id) (callLogged (record { entry = x; slot = d .slot; size = d .size }))) (sym e) (prepare-own (d .slot) (d .size) refl)
+    subst (λ (x : Entry). PrepareAck r i (r .sc .id) (callLogged (completion x (d .slot) (d .ballot) (d .size)))) (sym e) (prepare-own (d .slot) (d .ballot) (d .size) refl)
 
 accept-own-of : (r : Replica) (i : ℕ) (d : Done) → d .entry ≡ AcceptData → d .slot ≡ number (r .sc) i → AcceptAck r i (r .sc .id) (callLogged d)
 accept-own-of r i d e s =
-    subst (λ (x : Entry). AcceptAck r i (r .sc .id) (callLogged (record { entry = x; slot = d .slot; size = d .size }))) (sym e) (accept-own (d .slot) (d .size) refl s)
+    subst (λ (x : Entry). AcceptAck r i (r .sc .id) (callLogged (completion x (d .slot) (d .ballot) (d .size)))) (sym e) (accept-own (d .slot) (d .ballot) (d .size) refl s)
 
 step-backed : (r : Replica) (room : ℕ) (c : Call) (i : ℕ) → Good (r .sc) (r .window) → of (backed r (λ p. PrepareAck r i p c) (λ p. AcceptAck r i p c) i) (step r room c)
 unfolding of movedExec decideOffer

@@ -24,7 +24,7 @@ use Rattle.replica.specs.Messages.{cleanReply}
 use Rattle.replica.specs.Step.{Call, callPrepareReply, callTimeout, callLogged, step}
 use Rattle.laws.specs.OfFit.{fit-facts}
 use Rattle.laws.specs.WaysLeadership.{leadWindow, leadTrigger, leadEnd, leadFrom, led, Leads, timeoutStep-ways, leads-up}
-use Rattle.laws.specs.WaysDurability.{logged}
+use Rattle.laws.specs.WaysDurability.{completion, logged}
 use Rattle.voting.specs.Paper.{Choice}
 use Rattle.voting.specs.History.{Lent, told, play}
 use Rattle.voting.specs.Claims.{Claim, of}
@@ -60,8 +60,8 @@ brings-some r m s a =
 heard-some : (r : Replica) (room : ℕ) (c : Call) (s : ℕ) → All (λ (v : Vote). 0 < v .ballot) (heard r (record { room = room; call = c }) s)
 heard-some r room c s =
     heard-ways r room s (λ k v. All (λ (x : Vote). 0 < x .ballot) v) (λ peer m. brings-some r (cleanReply m) s (step r room (callPrepareReply peer m) .answer))
-    (λ slot size.
-    let d : Done = record { entry = PrepareBal; slot = slot; size = size } in
+    (λ slot bal size.
+    let d : Done = completion PrepareBal slot bal size in
     pick-both (All (λ (v : Vote). 0 < v .ballot)) (ownBook r d)
     {a = brings (logged r d) (ownAnswer r d) s (step r room (callLogged d) .answer)}
     {b = []}

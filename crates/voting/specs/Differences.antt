@@ -37,6 +37,7 @@ use Rattle.replica.specs.Step.{Call, callPrepare, callPrepareReply, callAccept,
 use Rattle.laws.specs.OfFit.{fit-facts}
 use Rattle.laws.specs.WaysMessages.{prepareWindow, prepareEnd, prepareStep-ways, acceptWindow, acceptStep-ways}
 use Rattle.laws.specs.WaysLeadership.{leadWindow, leadTrigger, leadFrom, timeoutStep-ways}
+use Rattle.laws.specs.WaysDurability.{completion}
 use Rattle.voting.specs.Paper.{answersPrepare, mayAccept}
 use Rattle.voting.specs.Windows.{Whole, whole-grown}
 use Rattle.voting.specs.Promises.{PrepareActs, AcceptActs, takenEntry, acceptHigh, accept-told}
@@ -232,19 +233,19 @@ differences =
     ∷ turn (callPrepareReply 1 (reply 0 0 257)) 0 (looks 1 257 0 0 1 0 0 0 0) []
     ∷ turn (callPrepareReply 2 (voting 0 0 257 3 9)) 0 (looks 1 257 0 257 2 9 0 0 0) (acceptBoth 0 257 9)
     ∷ turn (callAcceptReply 1 0 257) 0 (looks 1 257 0 257 2 9 0 0 0) []
-    ∷ turn (callAcceptReply 2 0 257) 0 (looks 1 257 0 257 3 9 0 0 0) (row 3 0 0 0 0 0 0 0)
+    ∷ turn (callAcceptReply 2 0 257) 0 (looks 1 257 0 257 3 9 0 0 0) (row 3 0 0 0 0 257 0 0)
     ∷ [])
-    -- a completion names no ballot: the entry of ballot 257 is durable, and the answer is at 258, to 258's owner, once for each entry
+    -- a completion's ballot is ignored: the entry of ballot 257 is durable, and the answer is at 258, to 258's owner, once for each entry
     ∷ run 2
     (turn (callPrepare 0 0 257) 0 (looks 1 257 0 0 1 0 0 0 0) (prepareBal 0 257)
     ∷ turn (callPrepare 1 0 258) 0 (looks 1 258 1 0 1 0 0 0 0) (prepareBal 0 258)
-    ∷ turn (callLogged (record { entry = PrepareBal; slot = 0; size = 40 })) 0 (looks 1 258 1 0 1 0 0 0 0) (row 5 1 0 0 0 258 0 0)
-    ∷ turn (callLogged (record { entry = PrepareBal; slot = 0; size = 80 })) 0 (looks 1 258 1 0 1 0 0 0 0) (row 5 1 0 0 0 258 0 0)
+    ∷ turn (callLogged (completion PrepareBal 0 257 40)) 0 (looks 1 258 1 0 1 0 0 0 0) (row 5 1 0 0 0 258 0 0)
+    ∷ turn (callLogged (completion PrepareBal 0 258 80)) 0 (looks 1 258 1 0 1 0 0 0 0) (row 5 1 0 0 0 258 0 0)
     ∷ [])
     ∷ run 2
     (turn (callAccept 0 0 257 (batchOf 7)) 0 (looks 1 257 0 0 2 7 257 7 0) (row 2 0 0 0 0 257 0 7)
     ∷ turn (callAccept 1 0 258 (batchOf 8)) 0 (looks 1 258 1 0 2 8 258 8 0) (row 2 0 0 0 0 258 0 8)
-    ∷ turn (callLogged (record { entry = AcceptData; slot = 0; size = 40 })) 0 (looks 1 258 1 0 2 8 258 8 0) (row 7 1 0 0 0 258 0 0)
+    ∷ turn (callLogged (completion AcceptData 0 257 40)) 0 (looks 1 258 1 0 2 8 258 8 0) (row 7 1 0 0 0 258 0 0)
     ∷ [])
     -- a member counts on its reply for its endprep slot alone: no reply for slot 0 arrived, and both slots enter Accept, slot 0 with the
     -- empty batch, whatever 1 and 2 had voted for in it
@@ -265,7 +266,7 @@ differences =
     (turn (callPrepare 0 0 257) 0 (looks 1 257 0 0 1 0 0 0 0) (prepareBal 0 257)
     ∷ turn (callAccept 0 0 257 (batchOf 7)) 0 (looks 1 257 0 0 2 7 257 7 0) (row 2 0 0 0 0 257 0 7)
     ∷ turn (callPrepare 0 0 257) 0 (looks 1 257 0 0 1 7 257 7 0) (prepareBal 0 257)
-    ∷ turn (callLogged (record { entry = PrepareBal; slot = 0; size = 40 })) 0 (looks 1 257 0 0 1 7 257 7 0) (row 5 0 0 0 0 257 257 7)
+    ∷ turn (callLogged (completion PrepareBal 0 257 40)) 0 (looks 1 257 0 0 1 7 257 7 0) (row 5 0 0 0 0 257 257 7)
     ∷ [])
     -- a deposed leader's 4: member 1's larger ballot, then a late reply at 257
     ∷ run 0
@@ -276,13 +277,13 @@ differences =
     -- a learner forgets: slot 0 is marked at 257, and a Prepare at 258 puts it back to Preparing
     ∷ run 2
     (turn (callAccept 0 0 257 (batchOf 7)) 0 (looks 1 257 0 0 2 7 257 7 0) (row 2 0 0 0 0 257 0 7)
-    ∷ turn (callCommitNotice 0 257 1) 0 (looks 1 257 0 0 3 7 257 7 0) (row 3 0 0 0 0 0 0 0)
+    ∷ turn (callCommitNotice 0 257 1) 0 (looks 1 257 0 0 3 7 257 7 0) (row 3 0 0 0 0 257 0 0)
     ∷ turn (callPrepare 1 0 258) 0 (looks 1 258 1 0 1 7 257 7 0) (prepareBal 0 258)
     ∷ [])
     -- and so does the same Accept, come twice, back to Accepting
     ∷ run 2
     (turn (callAccept 0 0 257 (batchOf 7)) 0 (looks 1 257 0 0 2 7 257 7 0) (row 2 0 0 0 0 257 0 7)
-    ∷ turn (callCommitNotice 0 257 1) 0 (looks 1 257 0 0 3 7 257 7 0) (row 3 0 0 0 0 0 0 0)
+    ∷ turn (callCommitNotice 0 257 1) 0 (looks 1 257 0 0 3 7 257 7 0) (row 3 0 0 0 0 257 0 0)
     ∷ turn (callAccept 0 0 257 (batchOf 7)) 0 (looks 1 257 0 0 2 7 257 7 0) (row 2 0 0 0 0 257 0 7)
     ∷ [])
     -- a member's own step-up raises its promise before anything is durable: 257 is ignored at once
@@ -293,7 +294,7 @@ differences =
     -- a stopped member has no way back: it promises 258, and made anew under its id it accepts at 257
     ∷ run 2
     (turn (callPrepare 1 0 258) 0 (looks 1 258 1 0 1 0 0 0 0) (prepareBal 0 258)
-    ∷ turn (callLogged (record { entry = PrepareBal; slot = 0; size = 40 })) 0 (looks 1 258 1 0 1 0 0 0 0) (row 5 1 0 0 0 258 0 0)
+    ∷ turn (callLogged (completion PrepareBal 0 258 40)) 0 (looks 1 258 1 0 1 0 0 0 0) (row 5 1 0 0 0 258 0 0)
     ∷ [])
     ∷ run 2 (turn (callAccept 0 0 257 (batchOf 7)) 0 (looks 1 257 0 0 2 7 257 7 0) (row 2 0 0 0 0 257 0 7) ∷ [])
     -- 5: a proposal for slot 64 that the paper's acceptor would accept
@@ -303,9 +304,9 @@ differences =
     ∷ run 0
     (turn (callTimeout 0) 0 (looks 1 257 0 0 1 0 0 0 0) (row 10 0 0 0 0 0 0 0 ++ row 9 255 0 0 0 0 0 0 ++ prepareBal 0 257 ++ row 4 255 0 0 0 257 0 0)
     ∷ turn (callPrepareReply 1 (reply 0 0 257)) 0 (looks 1 257 0 0 1 0 0 0 0) []
-    ∷ turn (callLogged (record { entry = PrepareBal; slot = 0; size = 40 })) 0 (looks 1 257 0 257 2 0 0 0 0) (acceptBoth 0 257 0)
+    ∷ turn (callLogged (completion PrepareBal 0 257 40)) 0 (looks 1 257 0 257 2 0 0 0 0) (acceptBoth 0 257 0)
     ∷ turn (callAcceptReply 1 0 257) 0 (looks 1 257 0 257 2 0 0 0 0) []
-    ∷ turn (callAcceptReply 2 0 257) 0 (looks 1 257 0 257 3 0 0 0 0) (row 3 0 0 0 0 0 0 0)
+    ∷ turn (callAcceptReply 2 0 257) 0 (looks 1 257 0 257 3 0 0 0 0) (row 3 0 0 0 0 257 0 0)
     ∷ turn (callPrepare 1 1 258) 0 (looks 2 258 1 257 3 0 0 0 1) (row 11 0 0 0 0 0 0 0 ++ prepareBal 1 258)
     ∷ turn (callTimeout 1) 0 (looks 2 513 0 0 3 0 0 0 1) (row 10 0 0 0 0 0 0 0 ++ row 9 255 0 0 0 0 0 0 ++ prepareBal 1 513 ++ row 4 255 0 1 0 513 0 0)
     ∷ turn (callPrepareReply 2 (reply 1 1 513)) 0 (looks 2 513 0 513 3 0 0 0 2) (acceptBoth 1 513 0)

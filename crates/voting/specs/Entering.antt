@@ -28,7 +28,7 @@ use Rattle.replica.specs.Step.{callPrepareReply, callLogged, step}
 use Rattle.laws.specs.OfFit.{fit-facts}
 use Rattle.laws.specs.Counts.{counted-long}
 use Rattle.laws.specs.WaysReply.{countedWindow, Answers, reply-place}
-use Rattle.laws.specs.WaysDurability.{Logs, logged, other-entry}
+use Rattle.laws.specs.WaysDurability.{completion, Logs, logged, other-entry}
 use Rattle.laws.specs.Appended.{appended-most}
 use Rattle.voting.specs.Windows.{Whole, whole-put}
 use Rattle.voting.specs.Claims.{Claim, of}
@@ -122,12 +122,12 @@ reply-enters-with r room peer m h =
     prepare-reply-way (enters r (m .ballot)) r room peer m (λ a l u x o k. none-sent x o k)
     (λ f. reply-enters r peer (cleanReply m) h (fit-facts r (f .fits) .numbers .window))
 
-own-enters : (r : Replica) (slot size : ℕ) → Whole (r .window) → Logs r (record { entry = PrepareBal; slot = slot; size = size })
-    → LogWays (enters r (ownAnswer r (record { entry = PrepareBal; slot = slot; size = size }) .ballot)) r (record { entry = PrepareBal; slot = slot; size = size })
+own-enters : (r : Replica) (slot bal size : ℕ) → Whole (r .window) → Logs r (completion PrepareBal slot bal size)
+    → LogWays (enters r (ownAnswer r (completion PrepareBal slot bal size) .ballot)) r (completion PrepareBal slot bal size)
 unfolding of loggedOn
-own-enters r slot size h f =
-    let d : Done = record { entry = PrepareBal; slot = slot; size = size } in
-    let b : ℕ = ownAnswer r (record { entry = PrepareBal; slot = slot; size = size }) .ballot in
+own-enters r slot bal size h f =
+    let d : Done = completion PrepareBal slot bal size in
+    let b : ℕ = ownAnswer r (completion PrepareBal slot bal size) .ballot in
     record {
       only = λ u x o k. none-sent x o k;
       own = λ e o. reply-enters (logged r d) (r .sc .id) (ownAnswer r d) (whole-put (r .window) (place (r .sc) slot) _ h) (fit-facts r (f .fits) .numbers .window);
@@ -139,14 +139,14 @@ own-enters r slot size h f =
     }
 
 -- and for a leader's own reply, at the end of its PrepareBal entry
-pub own-enters-with : (r : Replica) (room slot size : ℕ) → Whole (r .window) → (x : Act) → x ∈ step r room (callLogged (record { entry = PrepareBal; slot = slot; size = size })) .actions
+pub own-enters-with : (r : Replica) (room slot bal size : ℕ) → Whole (r .window) → (x : Act) → x ∈ step r room (callLogged (completion PrepareBal slot bal size)) .actions
     → kindOf x ≡ 6
-    → Entered r (ownAnswer r (record { entry = PrepareBal; slot = slot; size = size }) .ballot) (step r room (callLogged (record { entry = PrepareBal; slot = slot; size = size })) .replica .window) x
+    → Entered r (ownAnswer r (completion PrepareBal slot bal size) .ballot) (step r room (callLogged (completion PrepareBal slot bal size)) .replica .window) x
 unfolding of
-own-enters-with r room slot size h =
-    logged-way (enters r (ownAnswer r (record { entry = PrepareBal; slot = slot; size = size }) .ballot)) r (record { entry = PrepareBal; slot = slot; size = size }) room
+own-enters-with r room slot bal size h =
+    logged-way (enters r (ownAnswer r (completion PrepareBal slot bal size) .ballot)) r (completion PrepareBal slot bal size) room
     (λ a l u x o k. none-sent x o k)
-    (λ f. own-enters r slot size h f)
+    (λ f. own-enters r slot bal size h f)
 
 -- ── the whole sentence ──
 -- 2.2, phase 2 (a), of an Accept at a ballot that the last call c of a history gives: it is of a slot s and a batch b; where nothing was heard of s
@@ -179,9 +179,9 @@ enters-with-choice r h room peer m g x o k =
     entered-with-choice r h _ (m .ballot) g x (reply-enters-with (play r h) room peer m (good-play r h g .whole) x o k)
 
 -- and each that its own reply makes it send, at the end of its PrepareBal entry
-pub own-enters-with-choice : (r : Replica) (h : List Lent) (room slot size : ℕ) → Good (r .sc) (r .window) → (x : Act)
-    → x ∈ step (play r h) room (callLogged (record { entry = PrepareBal; slot = slot; size = size })) .actions → kindOf x ≡ 6
-    → WithChoice r h (record { room = room; call = callLogged (record { entry = PrepareBal; slot = slot; size = size }) })
-    (ownAnswer (play r h) (record { entry = PrepareBal; slot = slot; size = size }) .ballot) x
-own-enters-with-choice r h room slot size g x o k =
-    entered-with-choice r h _ _ g x (own-enters-with (play r h) room slot size (good-play r h g .whole) x o k)
+pub own-enters-with-choice : (r : Replica) (h : List Lent) (room slot bal size : ℕ) → Good (r .sc) (r .window) → (x : Act)
+    → x ∈ step (play r h) room (callLogged (completion PrepareBal slot bal size)) .actions → kindOf x ≡ 6
+    → WithChoice r h (record { room = room; call = callLogged (completion PrepareBal slot bal size) })
+    (ownAnswer (play r h) (completion PrepareBal slot bal size) .ballot) x
+own-enters-with-choice r h room slot bal size g x o k =
+    entered-with-choice r h _ _ g x (own-enters-with (play r h) room slot bal size (good-play r h g .whole) x o k)

@@ -32,7 +32,7 @@ use Rattle.laws.specs.OfFit.{fit-facts}
 use Rattle.laws.specs.WaysMessages.{prepareWindow, prepareEnd, prepareStep-ways, acceptStep-ways, acceptReplyStep-ways}
 use Rattle.laws.specs.WaysReply.{replyWindow, replySlot, heardSlot, heardWindow, countedWindow, Answers, Heard, Unheard, reply-place}
 use Rattle.laws.specs.WaysLeadership.{timeoutStep-ways, markWindow, markFrom, markEnd, commitNoticeStep-ways, leads-up}
-use Rattle.laws.specs.WaysDurability.{logged, loggedAt, OwnReply, passFrom, other-entry}
+use Rattle.laws.specs.WaysDurability.{completion, logged, loggedAt, OwnReply, passFrom, other-entry}
 use Rattle.laws.specs.WaysAdded.{offerWindow, offerStep-ways, executedStep-ways}
 use Rattle.laws.specs.Appended.{appended-long, appended-has, appended-most, appended-cases}
 use Rattle.voting.specs.Windows.{Whole, whole-put}
@@ -214,21 +214,21 @@ step-hears r room peer m s g l =
     deaf x (inr (inr u)) = clash (x .booked) u
 
 -- ── the leader's own, at the end of its PrepareBal entry ──
-abbrev ownHears : Replica → ℕ → ℕ → ℕ → Claim
-ownHears r slot size s a sc w acts =
+abbrev ownHears : Replica → ℕ → ℕ → ℕ → ℕ → Claim
+ownHears r slot bal size s a sc w acts =
     heldBy (atPlace w (place (r .sc) s))
     ≡ best (heldAt r s)
-    (pick (ownBook r (record { entry = PrepareBal; slot = slot; size = size }))
-    (brings (logged r (record { entry = PrepareBal; slot = slot; size = size })) (ownAnswer r (record { entry = PrepareBal; slot = slot; size = size })) s a) [])
+    (pick (ownBook r (completion PrepareBal slot bal size))
+    (brings (logged r (completion PrepareBal slot bal size)) (ownAnswer r (completion PrepareBal slot bal size)) s a) [])
 
-module _ (r : Replica) (room slot size s : ℕ) (g : Good (r .sc) (r .window)) (l : r .sc .start ≤ s) where
+module _ (r : Replica) (room slot bal size s : ℕ) (g : Good (r .sc) (r .window)) (l : r .sc .start ≤ s) where
   abbrev mine : Done
-  mine = record { entry = PrepareBal; slot = slot; size = size }
+  mine = completion PrepareBal slot bal size
 
   none-own : (a : ℕ) → (ownBook r mine ≡ true → a ≡ 0 → Arrived (logged r mine) (ownAnswer r mine) s → ⊥) → pick (ownBook r mine) (brings (logged r mine) (ownAnswer r mine) s a) [] ≡ []
   none-own a n = pick-cases (λ (x : List Vote). x ≡ []) (ownBook r mine) (λ t. brings-none (logged r mine) (ownAnswer r mine) s a (n t)) (λ t. refl)
 
-  own-turn : ownBook r mine ≡ true → (a : ℕ) (sc : Scalars) (w : Window) (acts : List Act) → hears (logged r mine) (ownAnswer r mine) s a sc w acts → ownHears r slot size s a sc w acts
+  own-turn : ownBook r mine ≡ true → (a : ℕ) (sc : Scalars) (w : Window) (acts : List Act) → hears (logged r mine) (ownAnswer r mine) s a sc w acts → ownHears r slot bal size s a sc w acts
   unfolding loggedOn
   own-turn u a sc w acts h =
       h ∙ ap (λ (v : Vote). best v (brings (logged r mine) (ownAnswer r mine) s a)) (after-held r mine (place (r .sc) s))
@@ -238,14 +238,14 @@ module _ (r : Replica) (room slot size s : ℕ) (g : Good (r .sc) (r .window)) (
   unfolding loggedOn
   after-whole = whole-put (r .window) (place (r .sc) slot) _ (g .whole)
 
-  step-own : leads (r .sc) ≡ true → of (ownHears r slot size s) (step r room (callLogged mine))
+  step-own : leads (r .sc) ≡ true → of (ownHears r slot bal size s) (step r room (callLogged mine))
   unfolding of loggedOn
   step-own q =
-      logged-way (ownHears r slot size s) r mine room (λ a _ u. sym (ap (best (heldAt r s)) (none-own a (λ t z x. below (u z) x))))
+      logged-way (ownHears r slot bal size s) r mine room (λ a _ u. sym (ap (best (heldAt r s)) (none-own a (λ t z x. below (u z) x))))
       (λ f. record {
         only = λ u. after-held r mine (place (r .sc) s) ∙ sym (ap (best (heldAt r s)) (none-own 0 (λ t z x. deaf x (u refl (own t)))));
         own = λ e o.
-            map-reply (hears (logged r mine) (ownAnswer r mine) s) (ownHears r slot size s) (logged r mine) (r .sc .id) (ownAnswer r mine)
+            map-reply (hears (logged r mine) (ownAnswer r mine) s) (ownHears r slot bal size s) (logged r mine) (r .sc .id) (ownAnswer r mine)
             (own-turn (and-make (o .booked) (le-leb _ _ (o .within))))
             (reply-hears (logged r mine) (r .sc .id) (ownAnswer r mine) s after-whole (fit-facts r (f .fits) .numbers .window) l);
         promised = λ e n. absurd (clash q n);
@@ -269,15 +269,15 @@ module _ (r : Replica) (room slot size s : ℕ) (g : Good (r .sc) (r .window)) (
 -- a reply that arrives, the leader's own, or a call that brings none
 pub heard-ways : (r : Replica) (room s : ℕ) (P : Call → List Vote → Type 0)
     → ((peer : ℕ) (m : Reply) → P (callPrepareReply peer m) (heard r (record { room = room; call = callPrepareReply peer m }) s))
-    → ((slot size : ℕ) → P (callLogged (record { entry = PrepareBal; slot = slot; size = size })) (heard r (record { room = room; call = callLogged (record { entry = PrepareBal; slot = slot; size = size }) }) s))
+    → ((slot bal size : ℕ) → P (callLogged (completion PrepareBal slot bal size)) (heard r (record { room = room; call = callLogged (completion PrepareBal slot bal size) }) s))
     → ((c : Call) → noReply c ≡ true → P c []) → (c : Call) → P c (heard r (record { room = room; call = c }) s)
 heard-ways r room s P came own none (callPrepareReply peer m) = came peer m
 heard-ways r room s P came own none (callLogged d) = entry (d .entry)
   where
-    entry : (e : Entry) → P (callLogged (record { entry = e; slot = d .slot; size = d .size })) (heard r (record { room = room; call = callLogged (record { entry = e; slot = d .slot; size = d .size }) }) s)
-    entry PrepareBal = own (d .slot) (d .size)
-    entry AcceptData = none (callLogged (record { entry = AcceptData; slot = d .slot; size = d .size })) refl
-    entry CommitEntry = none (callLogged (record { entry = CommitEntry; slot = d .slot; size = d .size })) refl
+    entry : (e : Entry) → P (callLogged (completion e (d .slot) (d .ballot) (d .size))) (heard r (record { room = room; call = callLogged (completion e (d .slot) (d .ballot) (d .size)) }) s)
+    entry PrepareBal = own (d .slot) (d .ballot) (d .size)
+    entry AcceptData = none (callLogged (completion AcceptData (d .slot) (d .ballot) (d .size))) refl
+    entry CommitEntry = none (callLogged (completion CommitEntry (d .slot) (d .ballot) (d .size))) refl
 heard-ways r room s P came own none (callPrepare peer trigger ballot) = none (callPrepare peer trigger ballot) refl
 heard-ways r room s P came own none (callAccept peer slot ballot b) = none (callAccept peer slot ballot b) refl
 heard-ways r room s P came own none (callAcceptReply peer slot ballot) = none (callAcceptReply peer slot ballot) refl
@@ -297,4 +297,4 @@ held-call r room c s g st l =
     heard-ways r room s
     (λ k v. leads (step r room k .replica .sc) ≡ true → step r room k .replica .sc .«bal_prep_sent» ≡ r .sc .«bal_prep_sent» → (place (r .sc) s < r .window .len) ⊎ (noOffer k ≡ true)
     → heldBy (atPlace (step r room k .replica .window) (place (r .sc) s)) ≡ best (heldAt r s) v)
-    (λ peer m x y h. step-hears r room peer m s g st) (λ slot size x y h. step-own r room slot size s g st l) (λ k n x y h. step-holds r room k s g l st h n x y) c
+    (λ peer m x y h. step-hears r room peer m s g st) (λ slot bal size x y h. step-own r room slot bal size s g st l) (λ k n x y h. step-holds r room k s g l st h n x y) c

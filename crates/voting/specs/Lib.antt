@@ -1,5 +1,6 @@
 pub mod Paper
 pub mod History
+pub mod Ignored
 pub mod Windows
 pub mod Keeping
 pub mod Claims

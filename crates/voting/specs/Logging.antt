@@ -44,7 +44,7 @@ module _ (P : Claim) (r : Replica) (d : Done) where
     pub commits : d .entry ≡ AcceptData → Acknowledges (logged r d .sc) (loggedAt r d) (r .sc .id) (loggedAt r d .ballot)
         → quorum (r .sc) ≤ countIn (acknowledgedSlot (r .sc .id) (loggedAt r d) .leader .«accept_acks»)
         → P 0 (core (r .sc)) (putSlot (logged r d .window) (place (r .sc) (d .slot)) (committedSlot (acknowledgedSlot (r .sc .id) (loggedAt r d))))
-        (bare (CommitSlot (record { slot = d .slot })) ∷ [])
+        (bare (CommitSlot (record { slot = d .slot; ballot = loggedAt r d .ballot })) ∷ [])
     pub answered : d .entry ≡ AcceptData → leads (r .sc) ≡ false
         → P 0 (core (r .sc)) (logged r d .window) (bare (AcceptReply (record { member = loggedAt r d .replica .source; slot = d .slot; ballot = loggedAt r d .ballot })) ∷ [])
     pub passes : d .entry ≡ CommitEntry → of P (passed (logged r d))

@@ -31,7 +31,7 @@ use Rattle.laws.specs.OfFit.{fit-facts}
 use Rattle.laws.specs.OfScalars.{fallen-fixed}
 use Rattle.laws.specs.Counts.{heard-long}
 use Rattle.laws.specs.WaysReply.{heardWindow, tabledSc, isFull, Answers, reply-place}
-use Rattle.laws.specs.WaysDurability.{logged, Logs, other-entry}
+use Rattle.laws.specs.WaysDurability.{completion, logged, Logs, other-entry}
 use Rattle.laws.specs.Appended.{appended-low, appended-most}
 use Rattle.voting.specs.Paper.{Majority, quorum-is-majority}
 use Rattle.voting.specs.Windows.{Whole, whole-put}
@@ -103,9 +103,9 @@ enter-by-majority r room peer m h =
     (λ j l. subst (λ (s : Slot). fitsGroup (s .leader .«prepare_acks») (r .sc .group) ≡ true) (sym (at-here (r .window) j l)) (g .slots j l .prepare)))
 
 -- and one that self's own PrepareBal completion makes it send: the trigger is its slot's
-module _ (r : Replica) (room slot offset : ℕ) (h : Whole (r .window)) where
+module _ (r : Replica) (room slot bal offset : ℕ) (h : Whole (r .window)) where
   abbrev mine : Done
-  mine = record { entry = PrepareBal; slot = slot; size = offset }
+  mine = completion PrepareBal slot bal offset
 
   abbrev ownPlace : ℕ
   ownPlace = place (r .sc) (ownAnswer r mine .trigger)
@@ -162,9 +162,9 @@ pub enters-answered : (r : Replica) (h : List Lent) (room peer : ℕ) (m : Reply
     → MajorityAnswered r h (record { room = room; call = callPrepareReply peer m }) (place (play r h .sc) (m .trigger)) (m .ballot)
 enters-answered r h room peer m g n x o k = answered-over r h _ _ _ g (λ s. clash (s .leading) n) (enter-by-majority (play r h) room peer m (good-play r h g .whole) x o k)
 
-pub own-enters-answered : (r : Replica) (h : List Lent) (room slot offset : ℕ) → Good (r .sc) (r .window) → leads (r .sc) ≡ false → (x : Act)
-    → x ∈ step (play r h) room (callLogged (record { entry = PrepareBal; slot = slot; size = offset })) .actions → kindOf x ≡ 6
-    → MajorityAnswered r h (record { room = room; call = callLogged (record { entry = PrepareBal; slot = slot; size = offset }) })
-    (place (play r h .sc) (ownAnswer (play r h) (record { entry = PrepareBal; slot = slot; size = offset }) .trigger))
-    (ownAnswer (play r h) (record { entry = PrepareBal; slot = slot; size = offset }) .ballot)
-own-enters-answered r h room slot offset g n x o k = answered-over r h _ _ _ g (λ s. clash (s .leading) n) (own-enter-by-majority (play r h) room slot offset (good-play r h g .whole) x o k)
+pub own-enters-answered : (r : Replica) (h : List Lent) (room slot bal offset : ℕ) → Good (r .sc) (r .window) → leads (r .sc) ≡ false → (x : Act)
+    → x ∈ step (play r h) room (callLogged (completion PrepareBal slot bal offset)) .actions → kindOf x ≡ 6
+    → MajorityAnswered r h (record { room = room; call = callLogged (completion PrepareBal slot bal offset) })
+    (place (play r h .sc) (ownAnswer (play r h) (completion PrepareBal slot bal offset) .trigger))
+    (ownAnswer (play r h) (completion PrepareBal slot bal offset) .ballot)
+own-enters-answered r h room slot bal offset g n x o k = answered-over r h _ _ _ g (λ s. clash (s .leading) n) (own-enter-by-majority (play r h) room slot bal offset (good-play r h g .whole) x o k)

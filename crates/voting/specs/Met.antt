@@ -28,6 +28,7 @@ use Rattle.replica.specs.Leadership.{leadOn, stepUp, timeoutStep}
 use Rattle.replica.specs.Durability.{preparedDone, movedAccept, acceptedDone, loggedOn, loggedStep}
 use Rattle.replica.specs.Step.{Call, callPrepare, callPrepareReply, callAccept, callAcceptReply, callTimeout, callLogged, step}
 use Rattle.laws.specs.WaysLeadership.{leadTrigger}
+use Rattle.laws.specs.WaysDurability.{completion}
 use Rattle.voting.specs.History.{Lent, told, play}
 use Rattle.voting.specs.Promises.{play-grows}
 use Rattle.voting.specs.Reached.{Good, good-new, good-play}
@@ -79,7 +80,7 @@ stepped = told (newReplica 0 5 0 0 .replica) (lend (callTimeout 0)) .replica
 
 unfoldable pub answers : List Lent
 answers =
-    lend (callPrepareReply 1 (voting 0 0 257 3 9)) ∷ lend (callPrepareReply 2 (voting 0 1 257 5 8)) ∷ lend (callLogged (record { entry = PrepareBal; slot = 0; size = 40 }))
+    lend (callPrepareReply 1 (voting 0 0 257 3 9)) ∷ lend (callPrepareReply 2 (voting 0 1 257 5 8)) ∷ lend (callLogged (completion PrepareBal 0 257 40))
     ∷ lend (callPrepareReply 3 (voting 0 0 257 4 7)) ∷ []
 
 pub reign-met : Reign stepped answers 0
@@ -106,7 +107,7 @@ choice-met = refl
 
 -- ── the leader's own entry makes the quorum: 1 and 3 have answered, and its own completion sends the Accept ──
 abbrev pub ownEntry : Lent
-ownEntry = lend (callLogged (record { entry = PrepareBal; slot = 0; size = 40 }))
+ownEntry = lend (callLogged (completion PrepareBal 0 257 40))
 
 unfoldable pub ownLast : List Lent
 ownLast = lend (callPrepareReply 1 (voting 0 0 257 3 9)) ∷ lend (callPrepareReply 3 (voting 0 0 257 4 7)) ∷ []
@@ -127,7 +128,7 @@ abbrev pub first : Replica
 first = newReplica 0 5 0 0 .replica
 
 unfoldable pub asked : List Lent
-asked = lend (callTimeout 0) ∷ lend (callPrepareReply 1 (reply 0 0 257)) ∷ lend (callLogged (record { entry = PrepareBal; slot = 0; size = 40 })) ∷ []
+asked = lend (callTimeout 0) ∷ lend (callPrepareReply 1 (reply 0 0 257)) ∷ lend (callLogged (completion PrepareBal 0 257 40)) ∷ []
 
 abbrev pub third : Lent
 third = lend (callPrepareReply 3 (reply 0 0 257))
@@ -145,7 +146,7 @@ abbrev pub stepUp0 : Lent
 stepUp0 = lend (callTimeout 0)
 
 unfoldable pub since : List Lent
-since = lend (callPrepareReply 1 (reply 0 0 257)) ∷ lend (callLogged (record { entry = PrepareBal; slot = 0; size = 40 })) ∷ []
+since = lend (callPrepareReply 1 (reply 0 0 257)) ∷ lend (callLogged (completion PrepareBal 0 257 40)) ∷ []
 
 pub reigns-met : Reigns first stepUp0 since
 unfolding since newReplica fit fitScalars fitSlots fitReads fitSlot filled noting settled countedOn votedOn repliedOn replyOn prepareReplyStep prepareOn prepareStep lastUsed acceptReplyStep firstOpen lastOpen leadOn stepUp timeoutStep preparedDone movedAccept acceptedDone loggedOn loggedStep decideVote decideCount decidePromised decideAccepted decideAcceptReply notAbove leastMajority withBar withFallen has insert count countIn makeBatch noteKey noteKeys newKeys placeIn overfullIn scan
@@ -173,7 +174,7 @@ reign-answered-met = reign-answered first stepUp0 since reigns-met 3456 3 (reply
 unfoldable pub promised : List Lent
 promised = lend (callPrepare 0 0 257) ∷ []
 
-pub promise-sent : map kindOf (told (play member promised) (lend (callLogged (record { entry = PrepareBal; slot = 0; size = 40 }))) .actions) ≡ 5 ∷ []
+pub promise-sent : map kindOf (told (play member promised) (lend (callLogged (completion PrepareBal 0 257 40))) .actions) ≡ 5 ∷ []
 unfolding promised newReplica fit fitScalars fitSlots fitReads fitSlot filled noting settled countedOn votedOn repliedOn replyOn prepareReplyStep prepareOn prepareStep lastUsed acceptReplyStep firstOpen lastOpen leadOn stepUp timeoutStep preparedDone movedAccept acceptedDone loggedOn loggedStep decideVote decideCount decidePromised decideAccepted decideAcceptReply notAbove leastMajority withBar withFallen has insert count countIn makeBatch noteKey noteKeys newKeys placeIn overfullIn scan
 promise-sent = refl
 
@@ -186,23 +187,23 @@ leader-good id e = good-new id 3 0 0 e
 
 unfoldable pub byOwn : List Lent
 byOwn =
-    lend (callTimeout 0) ∷ lend (callPrepareReply 1 (reply 0 0 257)) ∷ lend (callLogged (record { entry = PrepareBal; slot = 0; size = 40 })) ∷ lend (callAcceptReply 1 0 257) ∷ []
+    lend (callTimeout 0) ∷ lend (callPrepareReply 1 (reply 0 0 257)) ∷ lend (callLogged (completion PrepareBal 0 257 40)) ∷ lend (callAcceptReply 1 0 257) ∷ []
 
 unfoldable pub byReply : List Lent
 byReply =
     lend (callTimeout 1) ∷ lend (callPrepareReply 0 (reply 0 0 258)) ∷ lend (callPrepareReply 2 (reply 0 0 258)) ∷ lend (callAcceptReply 0 0 258) ∷ []
 
-pub own-commits-met : commitOf 0 ∈ step (play (leader 0) byOwn) 3456 (callLogged (record { entry = AcceptData; slot = 0; size = 80 })) .actions
+pub own-commits-met : commitOf 0 257 ∈ step (play (leader 0) byOwn) 3456 (callLogged (completion AcceptData 0 257 80)) .actions
 unfolding byOwn newReplica fit fitScalars fitSlots fitReads fitSlot filled noting settled countedOn votedOn repliedOn replyOn prepareReplyStep prepareOn prepareStep lastUsed acceptReplyStep firstOpen lastOpen leadOn stepUp timeoutStep preparedDone movedAccept acceptedDone loggedOn loggedStep decideVote decideCount decidePromised decideAccepted decideAcceptReply notAbove leastMajority withBar withFallen has insert count countIn makeBatch noteKey noteKeys newKeys placeIn overfullIn scan
 own-commits-met = List·Memᴰ·head refl
 
-pub reply-commits-met : commitOf 0 ∈ step (play (leader 1) byReply) 3456 (callAcceptReply 2 0 258) .actions
+pub reply-commits-met : commitOf 0 258 ∈ step (play (leader 1) byReply) 3456 (callAcceptReply 2 0 258) .actions
 unfolding byReply newReplica fit fitScalars fitSlots fitReads fitSlot filled noting settled countedOn votedOn repliedOn replyOn prepareReplyStep prepareOn prepareStep lastUsed acceptReplyStep firstOpen lastOpen leadOn stepUp timeoutStep preparedDone movedAccept acceptedDone loggedOn loggedStep decideVote decideCount decidePromised decideAccepted decideAcceptReply notAbove leastMajority withBar withFallen has insert count countIn makeBatch noteKey noteKeys newKeys placeIn overfullIn scan
 reply-commits-met = List·Memᴰ·head refl
 
 -- so the hypotheses of commit-by-own, commit-by-reply and commits-meet are met
 pub commits-met : (m : ℕ) × (m < 3)
-    × (has (acksOf (step (play (leader 0) byOwn) 3456 (callLogged (record { entry = AcceptData; slot = 0; size = 80 })) .replica .window) (place (play (leader 0) byOwn .sc) 0)) m ≡ true)
+    × (has (acksOf (step (play (leader 0) byOwn) 3456 (callLogged (completion AcceptData 0 257 80)) .replica .window) (place (play (leader 0) byOwn .sc) 0)) m ≡ true)
     × (has (acksOf (step (play (leader 1) byReply) 3456 (callAcceptReply 2 0 258) .replica .window) (place (play (leader 1) byReply .sc) 0)) m ≡ true)
 unfolding newReplica
 commits-met =
@@ -210,9 +211,9 @@ commits-met =
     let k = play-grows (leader 1) byReply .group in
     subst
     (λ (n : ℕ). (m : ℕ) × (m < n)
-    × (has (acksOf (step (play (leader 0) byOwn) 3456 (callLogged (record { entry = AcceptData; slot = 0; size = 80 })) .replica .window) (place (play (leader 0) byOwn .sc) 0)) m ≡ true)
+    × (has (acksOf (step (play (leader 0) byOwn) 3456 (callLogged (completion AcceptData 0 257 80)) .replica .window) (place (play (leader 0) byOwn .sc) 0)) m ≡ true)
     × (has (acksOf (step (play (leader 1) byReply) 3456 (callAcceptReply 2 0 258) .replica .window) (place (play (leader 1) byReply .sc) 0)) m ≡ true))
     g
     (commits-meet (play (leader 0) byOwn) (play (leader 1) byReply) _ _ (place (play (leader 0) byOwn .sc) 0) (place (play (leader 1) byReply .sc) 0) _ 2 (g ∙ sym k) (omega arith)
-    (commit-by-own (play (leader 0) byOwn) 3456 0 80 (good-play (leader 0) byOwn (leader-good 0 refl) .whole) own-commits-met)
-    (commit-by-reply (play (leader 1) byReply) 3456 2 0 258 (good-play (leader 1) byReply (leader-good 1 refl) .whole) reply-commits-met))
+    (commit-by-own (play (leader 0) byOwn) 3456 0 257 257 80 (good-play (leader 0) byOwn (leader-good 0 refl) .whole) own-commits-met)
+    (commit-by-reply (play (leader 1) byReply) 3456 2 0 258 258 (good-play (leader 1) byReply (leader-good 1 refl) .whole) reply-commits-met))

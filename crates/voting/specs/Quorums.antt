@@ -27,15 +27,15 @@ use Rattle.replica.specs.Durability.{loggedOn}
 use Rattle.replica.specs.Step.{callAcceptReply, callLogged, step}
 use Rattle.laws.specs.OfFit.{fit-facts}
 use Rattle.laws.specs.WaysMessages.{acceptReplyStep-ways}
-use Rattle.laws.specs.WaysDurability.{logged, loggedAt, Logs, other-entry}
+use Rattle.laws.specs.WaysDurability.{completion, logged, loggedAt, Logs, other-entry}
 use Rattle.voting.specs.Paper.{Majority, quorum-is-majority, majorities-meet}
 use Rattle.voting.specs.Windows.{Whole, whole-put}
 use Rattle.voting.specs.Keeping.{logged-keeps}
 use Rattle.voting.specs.Claims.{Claim, of}
 use Rattle.voting.specs.Logging.{LogWays, logged-way}
 
-abbrev pub commitOf : ℕ → Act
-commitOf slot = bare (CommitSlot (record { slot = slot }))
+abbrev pub commitOf : ℕ → ℕ → Act
+commitOf slot ballot = bare (CommitSlot (record { slot = slot; ballot = ballot }))
 
 -- the members that acknowledged the Accept of slot s
 abbrev pub acksOf : Window → ℕ → ℕ
@@ -50,11 +50,11 @@ pub record Committed (r : Replica) (w : Window) (i peer : ℕ) : Type 0 where
   pub fresh : has (acksOf (r .window) i) peer ≡ false
   pub last : acksOf w i ≡ insert (acksOf (r .window) i) peer
 
-abbrev commits : Replica → ℕ → ℕ → ℕ → Claim
-commits r slot i peer a sc w acts = commitOf slot ∈ acts → Committed r w i peer
+abbrev commits : Replica → ℕ → ℕ → ℕ → ℕ → Claim
+commits r slot said i peer a sc w acts = commitOf slot said ∈ acts → Committed r w i peer
 
-never : {A : Type 0} (slot : ℕ) → commitOf slot ∈ [] → A
-never slot m = absurd (List·Memᴰ·not-nil m)
+never : {A : Type 0} (slot said : ℕ) → commitOf slot said ∈ [] → A
+never slot said m = absurd (List·Memᴰ·not-nil m)
 
 -- from the slot as the replica has it, and the slot s to which it was made before it is acknowledged: they differ in wal_offset alone
 module _ (r : Replica) (w : Window) (i peer : ℕ) (s : Slot) (f : fit r ≡ true) (h : Whole w) (n : w .len ≡ r .window .len) (l : i < r .window .len) (p : peer < r .sc .group)
@@ -82,19 +82,28 @@ module _ (r : Replica) (w : Window) (i peer : ℕ) (s : Slot) (f : fit r ≡ tru
       }
 
 -- 2.2: an AcceptReply that commits: on any record with a window of 64 slots
-pub commit-by-reply : (r : Replica) (room peer slot ballot : ℕ) → Whole (r .window)
-    → commitOf slot ∈ step r room (callAcceptReply peer slot ballot) .actions → Committed r (step r room (callAcceptReply peer slot ballot) .replica .window) (place (r .sc) slot) peer
+pub commit-by-reply : (r : Replica) (room peer slot ballot said : ℕ) → Whole (r .window)
+    → commitOf slot said ∈ step r room (callAcceptReply peer slot ballot) .actions → Committed r (step r room (callAcceptReply peer slot ballot) .replica .window) (place (r .sc) slot) peer
 unfolding of
-commit-by-reply r room peer slot ballot h =
-    acceptReplyStep-ways (of (commits r slot (place (r .sc) slot) peer)) r room peer slot ballot (λ a l. never slot) (λ f q. never slot)
+commit-by-reply r room peer slot ballot said h =
+    acceptReplyStep-ways (of (commits r slot said (place (r .sc) slot) peer)) r room peer slot ballot (λ a l. never slot said) (λ f q. never slot said)
     (λ f q m. committed-by r (r .window) (place (r .sc) slot) peer (slotAt (r .window) (place (r .sc) slot)) (f .fits) h refl
     (let x = f .low in let y = f .high in omega arith) (f .peer-is .member) refl refl (f .counts .leading) (f .counts .status) (f .counts .new) q)
 
--- the slot is at the reply's ballot
-pub commit-at : (r : Replica) (room peer slot ballot : ℕ) → commitOf slot ∈ step r room (callAcceptReply peer slot ballot) .actions → atPlace (r .window) (place (r .sc) slot) .ballot ≡ ballot
-commit-at r room peer slot ballot =
-    acceptReplyStep-ways (λ (o : Outcome). commitOf slot ∈ o .actions → atPlace (r .window) (place (r .sc) slot) .ballot ≡ ballot) r room peer slot ballot (λ a l. never slot) (λ f q. never slot)
-    (λ f q m. ap (λ (v : Slot). v .ballot) (at-here (r .window) (place (r .sc) slot) (let x = f .low in let y = f .high in omega arith)) ∙ f .counts .even)
+-- the ballot that an action says
+abbrev pub ballotIn : Act → ℕ
+ballotIn a = getD (numbersOf (a .what) (a .keys)) 5 0
+
+-- the slot is at the reply's ballot, and its entry says this ballot
+pub commit-at : (r : Replica) (room peer slot ballot said : ℕ) → commitOf slot said ∈ step r room (callAcceptReply peer slot ballot) .actions
+    → (atPlace (r .window) (place (r .sc) slot) .ballot ≡ ballot) × (said ≡ ballot)
+commit-at r room peer slot ballot said =
+    acceptReplyStep-ways (λ (o : Outcome). commitOf slot said ∈ o .actions → (atPlace (r .window) (place (r .sc) slot) .ballot ≡ ballot) × (said ≡ ballot)) r room peer slot ballot
+    (λ a l. never slot said) (λ f q. never slot said)
+    (λ f q m. (
+      ap (λ (v : Slot). v .ballot) (at-here (r .window) (place (r .sc) slot) (let x = f .low in let y = f .high in omega arith)) ∙ f .counts .even,
+      ap ballotIn (List·Memᴰ·eq-of-singleton m) ∙ f .counts .even,
+    ))
 
 -- two slots committed by replies, at any two members of one group: their majorities share a member
 pub commits-meet : (r r′ : Replica) (w w′ : Window) (i j peer peer′ : ℕ) → r .sc .group ≡ r′ .sc .group → r .sc .group ≤ 9 → Committed r w i peer → Committed r′ w′ j peer′
@@ -106,8 +115,8 @@ commits-meet r r′ w w′ i j peer peer′ e l a b =
 abbrev pub kindOf : Act → ℕ
 kindOf a = getD (numbersOf (a .what) (a .keys)) 0 0
 
-other-act : {A : Type 0} (slot : ℕ) (a : Act) → (kindOf a ≡ 3 → ⊥) → commitOf slot ∈ (a ∷ []) → A
-other-act slot a n m = absurd (n (sym (ap kindOf (List·Memᴰ·eq-of-singleton m))))
+other-act : {A : Type 0} (slot said : ℕ) (a : Act) → (kindOf a ≡ 3 → ⊥) → commitOf slot said ∈ (a ∷ []) → A
+other-act slot said a n m = absurd (n (sym (ap kindOf (List·Memᴰ·eq-of-singleton m))))
 
 pub logged-same : (r : Replica) (d : Done) → Whole (r .window) → place (r .sc) (d .slot) < r .window .len → r .window .len ≤ 64
     → loggedAt r d ≡ loggedSlot (r .sc .«wal_offset») (slotAt (r .window) (place (r .sc) (d .slot)))
@@ -115,32 +124,32 @@ unfolding loggedOn
 logged-same r d h l u =
     put-here (r .window) (place (r .sc) (d .slot)) (loggedSlot (r .sc .«wal_offset») (slotAt (r .window) (place (r .sc) (d .slot)))) (omega arith)
 
-own-commits : (r : Replica) (slot size : ℕ) → Whole (r .window) → Logs r (record { entry = AcceptData; slot = slot; size = size })
-    → LogWays (commits r slot (place (r .sc) slot) (r .sc .id)) r (record { entry = AcceptData; slot = slot; size = size })
+own-commits : (r : Replica) (slot said bal size : ℕ) → Whole (r .window) → Logs r (completion AcceptData slot bal size)
+    → LogWays (commits r slot said (place (r .sc) slot) (r .sc .id)) r (completion AcceptData slot bal size)
 unfolding of loggedOn
-own-commits r slot size h f =
-    let d : Done = record { entry = AcceptData; slot = slot; size = size } in
+own-commits r slot said bal size h f =
+    let d : Done = completion AcceptData slot bal size in
     let g = fit-facts r (f .fits) in
     let l : place (r .sc) slot < r .window .len = (let x = f .low in let y = f .high in omega arith) in
     let e = logged-same r d h l (g .numbers .window) in
     record {
-      only = λ u. never slot;
+      only = λ u. never slot said;
       own = other-entry AcceptData PrepareBal refl;
       promised = other-entry AcceptData PrepareBal refl;
-      acked = λ x. never slot;
+      acked = λ x. never slot said;
       commits = λ x a k m.
           committed-by r (logged r d .window) (place (r .sc) slot) (r .sc .id) (loggedAt r d) (f .fits) (whole-put (r .window) (place (r .sc) slot) _ h) refl l (g .numbers .member)
           (ap (λ (v : Slot). v .leader) e ∙ logged-keeps (λ (v : Slot). v .leader) (λ s n. refl) (r .sc .«wal_offset») (slotAt (r .window) (place (r .sc) slot)))
           (ap (λ (v : Slot). v .status) e ∙ logged-keeps (λ (v : Slot). v .status) (λ s n. refl) (r .sc .«wal_offset») (slotAt (r .window) (place (r .sc) slot)))
           (a .leading) (a .status) (a .new) k;
-      answered = λ x n. other-act slot _ (λ z. omega arith);
+      answered = λ x n. other-act slot said _ (λ z. omega arith);
       passes = other-entry AcceptData CommitEntry refl;
     }
 
 -- the same for the leader's own: "equivalent to receiving an Accept reply from myself"
-pub commit-by-own : (r : Replica) (room slot size : ℕ) → Whole (r .window)
-    → commitOf slot ∈ step r room (callLogged (record { entry = AcceptData; slot = slot; size = size })) .actions
-    → Committed r (step r room (callLogged (record { entry = AcceptData; slot = slot; size = size })) .replica .window) (place (r .sc) slot) (r .sc .id)
+pub commit-by-own : (r : Replica) (room slot said bal size : ℕ) → Whole (r .window)
+    → commitOf slot said ∈ step r room (callLogged (completion AcceptData slot bal size)) .actions
+    → Committed r (step r room (callLogged (completion AcceptData slot bal size)) .replica .window) (place (r .sc) slot) (r .sc .id)
 unfolding of
-commit-by-own r room slot size h =
-    logged-way (commits r slot (place (r .sc) slot) (r .sc .id)) r (record { entry = AcceptData; slot = slot; size = size }) room (λ a l u. never slot) (λ f. own-commits r slot size h f)
+commit-by-own r room slot said bal size h =
+    logged-way (commits r slot said (place (r .sc) slot) (r .sc .id)) r (completion AcceptData slot bal size) room (λ a l u. never slot said) (λ f. own-commits r slot said bal size h f)

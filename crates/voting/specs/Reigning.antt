@@ -35,7 +35,7 @@ use Rattle.laws.specs.OfFit.{fit-facts}
 use Rattle.laws.specs.WaysMessages.{prepareStep-ways, acceptStep-ways, acceptReplyStep-ways}
 use Rattle.laws.specs.WaysReply.{replyWindow, heardWindow, countedWindow, Answers, reply-place}
 use Rattle.laws.specs.WaysLeadership.{leadWindow, leadTrigger, leadEnd, leadFrom, led, Leads, timeoutStep-ways, markWindow, markFrom, markEnd, commitNoticeStep-ways, leads-up}
-use Rattle.laws.specs.WaysDurability.{logged, loggedAt, passFrom}
+use Rattle.laws.specs.WaysDurability.{completion, logged, loggedAt, passFrom}
 use Rattle.laws.specs.WaysAdded.{offerWindow, Offers, offered, offerStep-ways, executedStep-ways}
 use Rattle.laws.specs.Appended.{appended-cases}
 use Rattle.voting.specs.Windows.{Whole, whole-put}
@@ -234,11 +234,11 @@ module _ (r : Replica) (u : Lent) (h : List Lent) (k : Reigns r u h) where
       (enter-by-majority now room peer m (good-play r (u ∷ h) (k .good) .whole) x o kind)
 
   -- and its own
-  pub own-reign-answered : (room slot offset : ℕ) → ownAnswer now (record { entry = PrepareBal; slot = slot; size = offset }) .trigger ≡ leadTrigger r → (x : Act)
-      → x ∈ step now room (callLogged (record { entry = PrepareBal; slot = slot; size = offset })) .actions → kindOf x ≡ 6
-      → EachAnswered r u h (record { room = room; call = callLogged (record { entry = PrepareBal; slot = slot; size = offset }) })
-      (ownAnswer now (record { entry = PrepareBal; slot = slot; size = offset }) .ballot)
-  own-reign-answered room slot offset e x o kind =
-      reign-each (record { room = room; call = callLogged (record { entry = PrepareBal; slot = slot; size = offset }) })
-      (ownAnswer now (record { entry = PrepareBal; slot = slot; size = offset }) .trigger) (ownAnswer now (record { entry = PrepareBal; slot = slot; size = offset }) .ballot) e
-      (own-enter-by-majority now room slot offset (good-play r (u ∷ h) (k .good) .whole) x o kind)
+  pub own-reign-answered : (room slot bal offset : ℕ) → ownAnswer now (completion PrepareBal slot bal offset) .trigger ≡ leadTrigger r → (x : Act)
+      → x ∈ step now room (callLogged (completion PrepareBal slot bal offset)) .actions → kindOf x ≡ 6
+      → EachAnswered r u h (record { room = room; call = callLogged (completion PrepareBal slot bal offset) })
+      (ownAnswer now (completion PrepareBal slot bal offset) .ballot)
+  own-reign-answered room slot bal offset e x o kind =
+      reign-each (record { room = room; call = callLogged (completion PrepareBal slot bal offset) })
+      (ownAnswer now (completion PrepareBal slot bal offset) .trigger) (ownAnswer now (completion PrepareBal slot bal offset) .ballot) e
+      (own-enter-by-majority now room slot bal offset (good-play r (u ∷ h) (k .good) .whole) x o kind)

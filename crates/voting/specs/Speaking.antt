@@ -42,7 +42,7 @@ use Rattle.laws.specs.OfFit.{fit-facts}
 use Rattle.laws.specs.WaysMessages.{prepareEnd, prepareStep-ways, acceptStep-ways, acceptReplyStep-ways}
 use Rattle.laws.specs.WaysReply.{countedWindow, Answers}
 use Rattle.laws.specs.WaysLeadership.{leadWindow, leadTrigger, leadFrom, timeoutStep-ways, markWindow, markFrom, markEnd, commitNoticeStep-ways}
-use Rattle.laws.specs.WaysDurability.{logged, Logs, passFrom}
+use Rattle.laws.specs.WaysDurability.{completion, logged, Logs, passFrom}
 use Rattle.laws.specs.WaysAdded.{offerStep-ways, executedStep-ways, openReadStep-ways, readReplyStep-ways, readPlace, readAt, mergedRead}
 use Rattle.voting.specs.History.{Lent, told}
 use Rattle.voting.specs.Claims.{Claim, of}
@@ -55,10 +55,11 @@ use Rattle.voting.specs.Telling.{told-same}
 
 -- ── what is said of one action of a call c at r ──
 -- 2.5: "an acceptor records its intended response in stable storage before actually sending the response": a reply comes from the completion of an
--- entry of its kind for its slot, at the slot's ballot as it is then, and not where self leads
+-- entry of its kind for its slot, at the slot's ballot as it is then, whatever the completion's, and not where self leads
 pub record OnCompletion (r : Replica) (c : Call) (e : Entry) (slot ballot : ℕ) : Type 0 where
+  pub bal : ℕ
   pub offset : ℕ
-  pub call : c ≡ callLogged (record { entry = e; slot = slot; size = offset })
+  pub call : c ≡ callLogged (completion e slot bal offset)
   pub follows : leads (r .sc) ≡ false
   pub at : ballot ≡ atPlace (r .window) (place (r .sc) slot) .ballot
 
@@ -142,10 +143,10 @@ log-says r d g f =
     record {
       only = λ u. tt;
       own = λ e o. reply-says r (callLogged d) (logged r d) (r .sc .id) (ownAnswer r d) (λ q. let x = g .leading (q .leading) in let y = q .sent in omega arith);
-      promised = λ e n. (record { offset = d .size; call = ap (λ (x : Entry). callLogged (record { entry = x; slot = d .slot; size = d .size })) e; follows = n; at = t .1 }, tt);
+      promised = λ e n. (record { bal = d .ballot; offset = d .size; call = ap (λ (x : Entry). callLogged (completion x (d .slot) (d .ballot) (d .size))) e; follows = n; at = t .1 }, tt);
       acked = λ e. tt;
       commits = λ e a q. (tt, tt);
-      answered = λ e n. (record { offset = d .size; call = ap (λ (x : Entry). callLogged (record { entry = x; slot = d .slot; size = d .size })) e; follows = n; at = t .1 }, tt);
+      answered = λ e n. (record { bal = d .ballot; offset = d .size; call = ap (λ (x : Entry). callLogged (completion x (d .slot) (d .ballot) (d .size))) e; follows = n; at = t .1 }, tt);
       passes = λ e. pass-ok r (callLogged d) (logged r d);
     }
 

@@ -23,7 +23,7 @@ use Rattle.replica.specs.Record.{place}
 use Rattle.replica.specs.Durability.{loggedOn}
 use Rattle.replica.specs.Step.{callLogged, step}
 use Rattle.laws.specs.OfFit.{fit-facts}
-use Rattle.laws.specs.WaysDurability.{Logs, loggedAt, other-entry}
+use Rattle.laws.specs.WaysDurability.{completion, Logs, loggedAt, other-entry}
 use Rattle.voting.specs.Paper.{Highest}
 use Rattle.voting.specs.Windows.{Whole}
 use Rattle.voting.specs.Keeping.{logged-keeps}
@@ -68,7 +68,7 @@ promiseActs sc s slot =
     ∷ []
 
 -- what a follower says at the end of a PrepareBal entry for slot: nothing, or one answer, with the slot's vote, at the slot's ballot as it is
--- now: the completion names no ballot
+-- now, whatever the completion's ballot
 pub record Tells (r : Replica) (slot : ℕ) (acts : List Act) : Type 0 where
   pub by : Slot
   pub votes : by .vote ≡ voteOf r slot
@@ -87,11 +87,11 @@ told-same r d h l u =
       ap (λ (x : Slot). x .ballot) e ∙ logged-keeps (λ (x : Slot). x .ballot) (λ s n. refl) (r .sc .«wal_offset») (slotAt (r .window) (place (r .sc) (d .slot))) ∙ ap (λ (x : Slot). x .ballot) (sym here),
     )
 
-promise-ways : (r : Replica) (slot size : ℕ) → Whole (r .window) → leads (r .sc) ≡ false → Logs r (record { entry = PrepareBal; slot = slot; size = size })
-    → LogWays (tells r slot) r (record { entry = PrepareBal; slot = slot; size = size })
+promise-ways : (r : Replica) (slot bal size : ℕ) → Whole (r .window) → leads (r .sc) ≡ false → Logs r (completion PrepareBal slot bal size)
+    → LogWays (tells r slot) r (completion PrepareBal slot bal size)
 unfolding of loggedOn
-promise-ways r slot size h n f =
-    let d : Done = record { entry = PrepareBal; slot = slot; size = size } in
+promise-ways r slot bal size h n f =
+    let d : Done = completion PrepareBal slot bal size in
     let t = told-same r d h (let x = f .low in let y = f .high in omega arith) (fit-facts r (f .fits) .numbers .window) in
     record {
       only = λ u. inl refl;
@@ -103,9 +103,9 @@ promise-ways r slot size h n f =
       passes = other-entry PrepareBal CommitEntry refl;
     }
 
-pub promise-tells : (r : Replica) (room slot size : ℕ) → Whole (r .window) → leads (r .sc) ≡ false
-    → (step r room (callLogged (record { entry = PrepareBal; slot = slot; size = size })) .actions ≡ [])
-    ⊎ Tells r slot (step r room (callLogged (record { entry = PrepareBal; slot = slot; size = size })) .actions)
+pub promise-tells : (r : Replica) (room slot bal size : ℕ) → Whole (r .window) → leads (r .sc) ≡ false
+    → (step r room (callLogged (completion PrepareBal slot bal size)) .actions ≡ [])
+    ⊎ Tells r slot (step r room (callLogged (completion PrepareBal slot bal size)) .actions)
 unfolding of
-promise-tells r room slot size h n =
-    logged-way (tells r slot) r (record { entry = PrepareBal; slot = slot; size = size }) room (λ a l u. inl refl) (λ f. promise-ways r slot size h n f)
+promise-tells r room slot bal size h n =
+    logged-way (tells r slot) r (completion PrepareBal slot bal size) room (λ a l u. inl refl) (λ f. promise-ways r slot bal size h n f)

@@ -24,9 +24,9 @@ enterActs slot ballot s =
     (act (AcceptData (proposal slot ballot (s .batch))) (s .batch .keys) ∷ act (Accept (proposal slot ballot (s .batch))) (s .batch .keys) ∷ [])
     []
 
--- CommitNotice: the slots below Committed are marked
+-- CommitNotice: the slots below Committed are marked, each with its own ballot, which marking keeps
 abbrev pub markActs : ℕ → Slot → List Act
-markActs slot s = pick (leb committed (s .status)) [] (bare (CommitSlot (record { slot = slot })) ∷ [])
+markActs slot s = pick (leb committed (s .status)) [] (bare (CommitSlot (record { slot = slot; ballot = s .ballot })) ∷ [])
 
 -- "One Execute action per batch"; an empty batch is executed at once
 abbrev pub passActs : ℕ → Slot → List Act

@@ -69,7 +69,7 @@ module _ (slot : ℕ) (s : Slot) where
   pub mark-none : 3 ≤ s .status → markActs slot s ≡ []
   mark-none h = rw (le-leb 3 (s .status) h)
 
-  pub mark-some : s .status < 3 → markActs slot s ≡ bare (CommitSlot (record { slot = slot })) ∷ []
+  pub mark-some : s .status < 3 → markActs slot s ≡ bare (CommitSlot (record { slot = slot; ballot = s .ballot })) ∷ []
   mark-some h = rw (lt-leb 3 (s .status) h)
 
   pub pass-empty : s .batch .id ≡ 0 → passActs slot s ≡ []

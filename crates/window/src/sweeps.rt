@@ -121,7 +121,7 @@ fn enter_one(s: Slot, room: &mut [u64], n: usize, slot: u64, ballot: u64) -> Tur
     }
 }
 
-// CommitNotice: a slot below Committed is marked, and its entry.
+// CommitNotice: a slot below Committed is marked, and its entry, which says the slot's own ballot.
 fn mark_one(s: Slot, room: &mut [u64], n: usize, slot: u64) -> Turned
     requires { ⌜ TwoFit n (now room) ⌝ }
     ensures { λ r. ⌜ Turns (markedSlot s) (markActs slot s) n (now (room .entry)) r (now (room .exit)) ⌝ }
@@ -130,7 +130,10 @@ fn mark_one(s: Slot, room: &mut [u64], n: usize, slot: u64) -> Turned
     if 3 <= s.status {
         return Turned { next: n, slot: t };
     }
-    let entry = Action::CommitSlot(Mark { slot: slot });
+    let entry = Action::CommitSlot(Mark {
+        slot: slot,
+        ballot: s.ballot,
+    });
     put_action(room, n, entry, [0u64; 8]);
     let next = n + 1;
     Turned {

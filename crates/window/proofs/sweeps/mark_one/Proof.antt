@@ -27,7 +27,7 @@ returns-2 : tie.Need-returns-2
 returns-2 c =
     let e = c .before .before .before .before in
     let s = e .before .before .before .before in
-    let entry = bare (CommitSlot (record { slot = s .args .slot })) in
+    let entry = bare (CommitSlot (record { slot = s .args .slot; ballot = s .args .s .ballot })) in
     turns-one _ _ _ _ _ _ (e .before .before .marked .ensures) entry (mark-some (s .args .slot) (s .args .s) (e .if1 .left))
     (put-one _ _ (s .pre) entry _ (c .before .before .put-action .ensures))
 

@@ -1,0 +1,73 @@
+-- 02, Wish 5, over a group's worlds: two runs of one group whose completions differ only in the ballot lead to the same world, so to the same replicas,
+-- logs, messages and marks.
+use mathlib.Core.Path.{_≡_, refl, _∙_, ap, subst}
+use mathlib.Core.Bool.{true}
+use Prim.Native.Nat.{ℕ}
+use Rattle.replica.specs.declared.Done.{Done}
+use Rattle.replica.specs.Step.{Call, callPrepare, callPrepareReply, callAccept, callAcceptReply, callCommitNotice, callTimeout, callLogged, callOffer, callExecuted, callOpenRead, callReadReply, step}
+use Rattle.laws.specs.WaysDurability.{completion}
+use Rattle.laws.specs.BallotIgnored.{Alike, same-call, same-entry, ballot-ignored}
+use Rattle.agreement.specs.Theorem.{Group, World, put, begin, May, logged, Reach, begins, turn}
+
+-- two runs that are alike turn by turn: the same member, the same room, and calls that are alike
+pub data AlikeReach (g : Group) : (w w′ : World) → Reach g w → Reach g w′ → Type 0 where
+  both-begin : AlikeReach g (begin g) (begin g) begins begins
+  both-turn : {w w′ : World} {r : Reach g w} {r′ : Reach g w′} → AlikeReach g w w′ r r′ → (m : ℕ) (p : g .present m ≡ true) (room : ℕ) (c c′ : Call)
+      (a : May w m room c) (a′ : May w′ m room c′) → Alike c c′
+      → AlikeReach g (put w m (step (w .replica m) room c)) (put w′ m (step (w′ .replica m) room c′)) (turn r m p room c a) (turn r′ m p room c′ a′)
+
+-- THE THEOREM, over worlds
+pub worlds-agree : {g : Group} (w w′ : World) (r : Reach g w) (r′ : Reach g w′) → AlikeReach g w w′ r r′ → w ≡ w′
+worlds-agree _ _ _ _ both-begin = refl
+worlds-agree _ _ _ _ (both-turn {w} {w′} {r} {r′} l m p room c c′ a a′ e) =
+    let before : w ≡ w′ = worlds-agree w w′ r r′ l in
+    let does : step (w .replica m) room c ≡ step (w′ .replica m) room c′ = ap (λ (u : World). step (u .replica m) room c) before ∙ ballot-ignored (w′ .replica m) room c c′ e in
+    λ k. put (before k) m (does k)
+
+-- ── that it is about every run: with any ballots in its completions it is a run, and comes to the same world ──
+module _ (f : Done → ℕ) where
+  abbrev pub saying : Call → Call
+  saying (callLogged d) = callLogged (completion (d .entry) (d .slot) (f d) (d .size))
+  saying (callPrepare peer trigger ballot) = callPrepare peer trigger ballot
+  saying (callPrepareReply peer m) = callPrepareReply peer m
+  saying (callAccept peer slot ballot b) = callAccept peer slot ballot b
+  saying (callAcceptReply peer slot ballot) = callAcceptReply peer slot ballot
+  saying (callCommitNotice peer ballot bar) = callCommitNotice peer ballot bar
+  saying (callTimeout source) = callTimeout source
+  saying (callOffer b) = callOffer b
+  saying (callExecuted slot) = callExecuted slot
+  saying (callOpenRead id count keys) = callOpenRead id count keys
+  saying (callReadReply peer id fromLeader reply) = callReadReply peer id fromLeader reply
+
+  saying-alike : (c : Call) → Alike c (saying c)
+  saying-alike (callLogged d) = same-entry (d .entry) (d .slot) (d .ballot) (f d) (d .size)
+  saying-alike (callPrepare peer trigger ballot) = same-call _
+  saying-alike (callPrepareReply peer m) = same-call _
+  saying-alike (callAccept peer slot ballot b) = same-call _
+  saying-alike (callAcceptReply peer slot ballot) = same-call _
+  saying-alike (callCommitNotice peer ballot bar) = same-call _
+  saying-alike (callTimeout source) = same-call _
+  saying-alike (callOffer b) = same-call _
+  saying-alike (callExecuted slot) = same-call _
+  saying-alike (callOpenRead id count keys) = same-call _
+  saying-alike (callReadReply peer id fromLeader reply) = same-call _
+
+  may-say : {w : World} {m room : ℕ} (c : Call) → May w m room c → May w m room (saying c)
+  may-say (callLogged d) a = logged _
+  may-say (callPrepare peer trigger ballot) a = a
+  may-say (callPrepareReply peer m) a = a
+  may-say (callAccept peer slot ballot b) a = a
+  may-say (callAcceptReply peer slot ballot) a = a
+  may-say (callCommitNotice peer ballot bar) a = a
+  may-say (callTimeout source) a = a
+  may-say (callOffer b) a = a
+  may-say (callExecuted slot) a = a
+  may-say (callOpenRead id count keys) a = a
+  may-say (callReadReply peer id fromLeader reply) a = a
+
+  pub any-ballots : {g : Group} {w : World} (r : Reach g w) → (w′ : World) × (r′ : Reach g w′) × AlikeReach g w w′ r r′
+  any-ballots {g} begins = (begin g, begins, both-begin)
+  any-ballots (turn {w = u} r m p room c a) =
+      let (u′, r′, l) = any-ballots r in
+      let a′ : May u′ m room (saying c) = subst (λ (v : World). May v m room (saying c)) (worlds-agree u u′ r r′ l) (may-say c a) in
+      (put u′ m (step (u′ .replica m) room (saying c)), turn r′ m p room (saying c) a′, both-turn l m p room c (saying c) a a′ (saying-alike c))
