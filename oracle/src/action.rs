@@ -42,7 +42,7 @@ pub const KIND_NAMES: [&str; 13] = [
     "read answer",
 ];
 
-/// What the source's message or entry lacks is 0.
+/// What the source's message or entry lacks is 0, but for CommitSlot's ballot (02, Wish 5).
 #[derive(Debug, Clone, Copy, PartialEq, Eq, Default)]
 pub struct Action {
     pub kind: Kind,

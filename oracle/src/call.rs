@@ -114,9 +114,11 @@ pub enum Call {
     Offer {
         batch: Batch,
     },
+    /// 02, Wish 5: a completion names the ballot that its entry was written at.
     LogDone {
         entry: Entry,
         slot: u64,
+        ballot: u64,
         size: u64,
     },
     Executed {
@@ -156,7 +158,7 @@ impl Call {
                     2 => Entry::AcceptData,
                     _ => Entry::CommitSlot,
                 };
-                Call::LogDone { entry, slot, size: bar }
+                Call::LogDone { entry, slot, ballot, size: bar }
             }
             9 => Call::Executed { slot },
             10 => Call::OpenRead { read: slot, keys: batch_of(record).keys },
@@ -196,8 +198,8 @@ impl Call {
             }
             Call::Timeout { source } => Record { kind: 6, peer: source, ..none },
             Call::Offer { batch } => with_batch(Record { kind: 7, ..none }, batch),
-            Call::LogDone { entry, slot, size } => {
-                Record { kind: 8, sub: entry as u8, slot, bar: size, ..none }
+            Call::LogDone { entry, slot, ballot, size } => {
+                Record { kind: 8, sub: entry as u8, slot, ballot, bar: size, ..none }
             }
             Call::Executed { slot } => Record { kind: 9, slot, ..none },
             Call::OpenRead { read, keys } => {
@@ -216,7 +218,8 @@ impl Call {
             Call::New { .. } => must_not_be_reached!("a new replica inside an old one"),
             Call::Timeout { source } => replica.time_out(source),
             Call::Offer { batch } => replica.offer(batch.to_requests()),
-            Call::LogDone { entry, slot, size } => {
+            // The source has no place for the ballot.
+            Call::LogDone { entry, slot, ballot: _, size } => {
                 replica.log_done(slot as usize, entry.status(), size as usize)
             }
             Call::Executed { slot } => {

@@ -35,7 +35,7 @@ pub(crate) fn refusal(replica: &Replica, call: &Call) -> Option<u8> {
         }
         Call::AcceptReply { slot, ballot, .. } => six(accept_reply_fails(replica, slot, ballot)),
         Call::Offer { ref batch } => seven(replica, &Keyed::Batch(batch)),
-        Call::LogDone { entry, slot, size } => log_done(replica, entry, slot, size),
+        Call::LogDone { entry, slot, ballot: _, size } => log_done(replica, entry, slot, size),
         Call::ReadReply { peer, read, ref known, from_leader } => {
             let open = replica.quorum_reads.get(&Replica::read_name(read));
             six(open.is_some_and(|open| {

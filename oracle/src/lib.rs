@@ -6,6 +6,7 @@ mod host;
 
 pub mod action;
 pub mod agree;
+pub mod ballots;
 pub mod baseline;
 pub mod batch;
 pub mod branches;

@@ -5,6 +5,7 @@ use std::io::{self, BufReader, BufWriter, Read, Write};
 use std::process::ExitCode;
 
 use oracle::agree::{Agreement, agree};
+use oracle::ballots::other_ballots;
 use oracle::baseline::{self, BUFFER};
 use oracle::digest::Digest;
 use oracle::first_value::{Departures, departs, without_first_values};
@@ -28,6 +29,8 @@ const USAGE: &str = "usage:
                    differs exactly at the records where a value meets nothing held
   oracle without-first-values
                    with --old-rule: the trace without such replies
+  oracle other-ballots SEED
+                   the trace with another ballot in every log completion, fixed by the seed
   oracle merges-of a trace of the merges of each read that the trace opened, one read after another
   oracle merges    a trace of that form; for each read opened and each reply, the answer and what
                    the Rust knows of the read after it
@@ -48,6 +51,7 @@ enum Command {
     Agree { trace: String },
     Departs { trace: String },
     WithoutFirstValues,
+    OtherBallots { seed: u64 },
     MergesOf,
     Merges,
     Stats { traces: Vec<String> },
@@ -97,6 +101,8 @@ fn parse(words: &[String]) -> Result<Command, String> {
         ["departs", ..] => Err("departs takes TRACE".to_string()),
         ["without-first-values"] => Ok(Command::WithoutFirstValues),
         ["without-first-values", ..] => Err("without-first-values takes no arguments".to_string()),
+        ["other-ballots", seed] => Ok(Command::OtherBallots { seed: number("SEED", seed)? }),
+        ["other-ballots", ..] => Err("other-ballots takes SEED".to_string()),
         ["example", name] => Ok(Command::Example {
             trace: generate::example(name)
                 .ok_or_else(|| format!("no example is called '{name}'"))?,
@@ -163,6 +169,7 @@ fn run(command: Command) -> io::Result<ExitCode> {
             return Ok(ExitCode::from(code));
         }
         Command::WithoutFirstValues => without_first_values(input, &mut output)?,
+        Command::OtherBallots { seed } => other_ballots(seed, input, &mut output)?,
         Command::Stats { traces } => {
             let mut stats = Stats::default();
             for trace in &traces {

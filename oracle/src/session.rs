@@ -110,6 +110,10 @@ impl Live {
     fn keep(&mut self, call: &Call, answer: u8, actions: Vec<Action>) -> Outcome {
         assert!(actions.len() <= ROOM, "more actions than 01 has room for: {call:?}");
         assert!(refuse::is_fit(&self.replica), "the source leaves an unfit record: {call:?}");
+        assert!(
+            actions::commits_have_their_slots_ballots(&self.replica, &actions),
+            "a CommitSlot's ballot is not the one that its slot has after the call: {call:?}"
+        );
         self.since_copy.push(*call);
         if self.since_copy.len() >= CALLS_PER_COPY {
             self.copy = self.replica.clone();

@@ -141,6 +141,16 @@ fn agree_counts_the_records_or_shows_the_first_that_differs() {
 }
 
 #[test]
+fn a_seed_fixes_the_other_ballots() {
+    let trace = worked_example();
+    let with = |seed| oracle(&["other-ballots", seed], &trace).stdout;
+    assert_eq!(with("3").len(), trace.len());
+    assert_eq!(with("3"), with("3"));
+    assert_ne!(with("3"), with("4"));
+    assert_eq!(printed(&["tell"], &with("3")), printed(&["tell"], &trace));
+}
+
+#[test]
 fn a_trace_that_is_not_there_is_an_error() {
     for command in ["stats", "agree"] {
         let output = oracle(&[command, "no/such.trace"], b"");
@@ -152,12 +162,15 @@ fn a_trace_that_is_not_there_is_an_error() {
 
 #[test]
 fn bad_usage_is_an_error() {
-    let bad: [&[&str]; 21] = [
+    let bad: [&[&str]; 24] = [
         &[],
         &["--old-rule"],
         &["departs"],
         &["departs", "one.trace", "two.trace"],
         &["without-first-values", "trace"],
+        &["other-ballots"],
+        &["other-ballots", "one"],
+        &["other-ballots", "1", "trace"],
         &["merges", "trace"],
         &["merges-of", "trace"],
         &["baseline", "trace"],

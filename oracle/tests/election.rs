@@ -96,7 +96,7 @@ fn accepted(peer: u8, slot: u64) -> Call {
 }
 
 fn logged(entry: Entry, slot: u64, size: u64) -> Call {
-    Call::LogDone { entry, slot, size }
+    Call::LogDone { entry, slot, ballot: BALLOT, size }
 }
 
 /// What is told of each record of one member's trace: the replay line after the member, and the

@@ -40,10 +40,10 @@ fn a_deposed_leader_answers_with_its_old_entry() {
 
     // Member 2 leads with slot 0, and offers slot 1; both its Accepts reach everybody.
     let step_up = members[2].does(timeout(2));
-    members[2].does(done(Entry::PrepareBal, 0));
+    members[2].does(done(Entry::PrepareBal, 0, 259));
     members[0].does(as_prepare(2, &step_up));
     members[1].does(as_prepare(2, &step_up));
-    let reply = members[0].does(done(Entry::PrepareBal, 0))[0];
+    let reply = members[0].does(done(Entry::PrepareBal, 0, 259))[0];
     let first = members[2].does(as_prepare_reply(0, reply));
     let second = members[2].does(Call::Offer { batch: Batch::new(5, &[1]) });
     for member in [0, 1] {
@@ -57,18 +57,19 @@ fn a_deposed_leader_answers_with_its_old_entry() {
 
     // Member 1 steps up too; its Prepare reaches member 2 and is lost to member 0.
     let new = members[1].does(timeout(2));
-    members[1].does(done(Entry::PrepareBal, 0));
-    members[1].does(done(Entry::PrepareBal, 1));
+    members[1].does(done(Entry::PrepareBal, 0, 514));
+    members[1].does(done(Entry::PrepareBal, 1, 514));
     members[2].does(as_prepare(1, &new));
-    let replies =
-        [0, 1].map(|slot| members[2].does(done(Entry::PrepareBal, slot)).pop().expect("a reply"));
+    let replies = [0, 1]
+        .map(|slot| members[2].does(done(Entry::PrepareBal, slot, 514)).pop().expect("a reply"));
     members[1].does(as_prepare_reply(2, replies[0]));
     let accepts = members[1].does(as_prepare_reply(2, replies[1]));
 
     // Its Accept for slot 1 deposes member 0, which then finishes its own old entry.
     let deposed = members[0].does(as_accept(1, sent(&accepts, Kind::Accept, 1)));
     assert_eq!(deposed[0].kind, Kind::StatusDown);
-    let late = members[0].does(done(Entry::PrepareBal, 1))[0];
+    let written = sent(&old, Kind::PrepareBal, 1).ballot;
+    let late = members[0].does(done(Entry::PrepareBal, 1, written))[0];
     assert_eq!((late.kind, late.member, late.slot), (Kind::PrepareReply, 1, 1));
     assert_eq!((late.trigger, late.endprep), (0, 0));
     assert_eq!(late.ballot, members[1].scalars()[BAL_PREP_SENT]);

@@ -49,7 +49,7 @@ fn a_member_whose_last_reply_is_for_a_committed_slot_is_not_counted() {
     assert_eq!((leader.status(0), leader.status(1)), (2, 3));
     leader.does(timeout(1));
     let ballot = leader.scalars()[BAL_PREP_SENT];
-    leader.does(Call::LogDone { entry: Entry::PrepareBal, slot: 0, size: 1 });
+    leader.does(Call::LogDone { entry: Entry::PrepareBal, slot: 0, ballot, size: 1 });
     // Member 1 answers slot 0, then slot 1, its endprep: committed here, so it does not count.
     leader.does(spanning_reply(1, ballot, 0, 0, 1));
     assert_eq!(leader.does(spanning_reply(1, ballot, 1, 0, 1)), []);

@@ -2,16 +2,21 @@
 //! members in which slot 1 is committed with two batches at two ballots.
 
 use std::fs;
-use std::path::Path;
+use std::path::{Path, PathBuf};
 
+use oracle::call::{Call, Entry};
 use oracle::play::play;
+use oracle::record::{RECORD_BYTES, Record};
 use oracle::tell::Text;
+
+fn trace_of(member: u8) -> PathBuf {
+    Path::new(env!("CARGO_MANIFEST_DIR")).join(format!("samples/late-{member}.trace"))
+}
 
 /// The told text of a member's trace, record by record.
 fn told(member: u8) -> Vec<String> {
-    let trace = Path::new(env!("CARGO_MANIFEST_DIR")).join(format!("samples/late-{member}.trace"));
     let mut records = Vec::new();
-    play(fs::File::open(trace).expect("a trace"), |played| {
+    play(fs::File::open(trace_of(member)).expect("a trace"), |played| {
         let mut text = Text::default();
         text.told(played.number, played.outcome, played.replica);
         records.push(String::from_utf8(text.bytes).expect("ASCII"));
@@ -44,6 +49,19 @@ fn one_slot_is_committed_with_two_batches_at_two_ballots() {
     assert_eq!(slot_one(&one), (514, 3, 0), "member 1 commits the empty batch");
     assert_eq!(slot_one(&two), (771, 3, 7), "member 2 commits batch 7");
     assert_eq!((actions(&one, 3), actions(&two, 3)), (1, 1), "each with one CommitSlot");
+}
+
+/// Member 2's accept entry was written at ballot 257; its completion says so, and the answer that
+/// comes of it is at 514, the slot's.
+#[test]
+fn the_late_completion_names_its_entrys_ballot() {
+    let trace = fs::read(trace_of(2)).expect("a trace");
+    let late = Record::decode(&trace[3 * RECORD_BYTES..4 * RECORD_BYTES]).expect("a record");
+    let entry = Call::LogDone { entry: Entry::AcceptData, slot: 1, ballot: 257, size: 40 };
+    assert_eq!(Call::from_record(&late), entry);
+    let records = told(2);
+    assert!(records[1].contains("\nA 2 0 1 0 0 257 "));
+    assert!(records[3].contains("\nA 7 1 1 0 0 514 "));
 }
 
 /// Every message that a member gets in these traces, some member sends in them.

@@ -89,7 +89,7 @@ fn a_trigger_without_bookkeeping_leaves_the_peer_table() {
 fn the_largest_call_gives_191_actions() {
     let mut leader = Member::new(0, 3, 0);
     leader.does(timeout(0));
-    leader.does(done(Entry::PrepareBal, 0));
+    leader.does(done(Entry::PrepareBal, 0, 257));
     let actions = leader.does(spanning_reply(1, 257, 63, 0, 63));
     assert_eq!(actions.len(), 191);
     assert_eq!(actions.iter().filter(|action| action.kind == Kind::PrepareBal).count(), 63);
@@ -102,10 +102,11 @@ fn accept_replies_and_completions_past_the_log_end_are_4() {
     leader.ignores(accept_reply(1, 258, 6));
     leader.refuses(4, accept_reply(1, 257, 6));
     for entry in [Entry::PrepareBal, Entry::AcceptData, Entry::CommitSlot] {
-        leader.ignores(Call::LogDone { entry, slot: 4, size: 0 });
-        leader.refuses(4, Call::LogDone { entry, slot: 6, size: 0 });
-        leader.refuses(4, Call::LogDone { entry, slot: (1 << 62) + 5, size: 0 });
-        leader.refuses(6, Call::LogDone { entry, slot: 5, size: 99 });
+        let finished = |slot, size| Call::LogDone { entry, slot, ballot: 257, size };
+        leader.ignores(finished(4, 0));
+        leader.refuses(4, finished(6, 0));
+        leader.refuses(4, finished((1 << 62) + 5, 0));
+        leader.refuses(6, finished(5, 99));
     }
     leader.ignores(Call::Executed { slot: 4 });
     leader.refuses(4, Call::Executed { slot: 6 });
@@ -154,15 +155,15 @@ fn a_step_up_below_exec_bar_is_8() {
     let mut member = Member::new(0, 1, 0);
     member.does(timeout(0));
     for entry in [Entry::PrepareBal, Entry::AcceptData, Entry::CommitSlot] {
-        member.does(done(entry, 0));
+        member.does(done(entry, 0, 257));
     }
     member.does(Call::Executed { slot: 0 });
     assert_eq!(member.scalars()[EXEC_BAR], 1);
     let mut follower = Member::new(2, 3, 0);
     follower.does(accept(0, 257, 0, Batch::default()));
     follower.does(notice(0, 257, 1));
-    follower.does(done(Entry::AcceptData, 0));
-    follower.does(done(Entry::CommitSlot, 0));
+    follower.does(done(Entry::AcceptData, 0, 257));
+    follower.does(done(Entry::CommitSlot, 0, 257));
     follower.does(Call::Executed { slot: 0 });
     assert_eq!(follower.scalars()[EXEC_BAR], 1);
     follower.does(prepare(0, 257, 0));

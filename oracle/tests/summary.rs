@@ -27,7 +27,7 @@ fn accepting_follower() -> Member {
     for slot in 0..3 {
         member.does(accept(0, 257, slot, batch(slot)));
     }
-    member.does(done(Entry::AcceptData, 0));
+    member.does(done(Entry::AcceptData, 0, 257));
     member
 }
 
@@ -42,7 +42,7 @@ fn committed_follower() -> Member {
 /// The same with commit_bar past them.
 fn passed_follower() -> Member {
     let mut member = committed_follower();
-    member.does(done(Entry::CommitSlot, 0));
+    member.does(done(Entry::CommitSlot, 0, 257));
     assert_eq!(member.scalars()[COMMIT_BAR], 3);
     member
 }
@@ -157,7 +157,7 @@ fn a_quorum_of_accept_replies_lowers_the_count() {
     leader.does(accept_reply(2, 257, 1));
     assert_eq!(leader.summary(), "F 0 1");
     leader.does(accept_reply(1, 257, 0));
-    leader.does(done(Entry::AcceptData, 0));
+    leader.does(done(Entry::AcceptData, 0, 257));
     assert_eq!(leader.summary(), "F 2 0");
 }
 

@@ -27,9 +27,9 @@ fn worked() -> Vec<Call> {
     vec![
         new_member(0, 1),
         Call::Timeout { source: 0 },
-        done(Entry::PrepareBal, 0, 40),
-        done(Entry::AcceptData, 0, 80),
-        done(Entry::CommitSlot, 0, 120),
+        done(Entry::PrepareBal, 0, 257, 40),
+        done(Entry::AcceptData, 0, 257, 80),
+        done(Entry::CommitSlot, 0, 257, 120),
     ]
 }
 
@@ -44,7 +44,7 @@ fn full_key_table() -> Vec<Call> {
 
     calls.push(new_member(0, 3));
     calls.push(Call::Timeout { source: 0 });
-    calls.push(Call::LogDone { entry: Entry::PrepareBal, slot: 0, size: 9 });
+    calls.push(done(Entry::PrepareBal, 0, 257, 9));
     calls.push(reply(1, 257, (0, 0, 0), None));
     calls.extend(fill().chain(edge_lists()).map(|batch| Call::Offer { batch }));
 
@@ -59,7 +59,7 @@ fn full_key_table() -> Vec<Call> {
         calls.push(reply(2, 513, (40, 0, 40), Some((1, Batch::new(7, &[950, 951])))));
     }
     calls.push(reply(2, 513, (40, 0, 40), Some((1, Batch::new(7, &[900])))));
-    calls.push(Call::LogDone { entry: Entry::PrepareBal, slot: 3, size: 9 });
+    calls.push(done(Entry::PrepareBal, 3, 513, 9));
     calls
 }
 
@@ -69,23 +69,23 @@ fn refused_and_done() -> Vec<Call> {
 }
 
 /// What demand 3 does not promise, as the three members of one group see it: a deposed leader's
-/// Accept is answered after a newer Prepare, since a log completion names no ballot. Member 1
-/// commits slot 1 empty at ballot 514, member 2 commits it with batch 7 at ballot 771.
+/// Accept is answered after a newer Prepare, since a replica ignores a log completion's ballot.
+/// Member 1 commits slot 1 empty at ballot 514, member 2 commits it with batch 7 at ballot 771.
 fn late_at_0() -> Vec<Call> {
     vec![
         urgent_member(0),
         Call::Timeout { source: 0 },
-        done(Entry::PrepareBal, 0, 40),
+        done(Entry::PrepareBal, 0, 257, 40),
         reply(1, 257, (0, 0, 0), None),
         Call::Offer { batch: seven() },
         Call::Prepare { peer: 1, trigger: 0, ballot: 514 },
-        done(Entry::PrepareBal, 0, 80),
-        done(Entry::PrepareBal, 1, 120),
+        done(Entry::PrepareBal, 0, 514, 80),
+        done(Entry::PrepareBal, 1, 514, 120),
         Call::Prepare { peer: 2, trigger: 0, ballot: 771 },
-        done(Entry::PrepareBal, 0, 160),
-        done(Entry::PrepareBal, 1, 200),
+        done(Entry::PrepareBal, 0, 771, 160),
+        done(Entry::PrepareBal, 1, 771, 200),
         Call::Accept { peer: 2, slot: 1, ballot: 771, batch: seven() },
-        done(Entry::AcceptData, 1, 240),
+        done(Entry::AcceptData, 1, 771, 240),
     ]
 }
 
@@ -93,12 +93,12 @@ fn late_at_1() -> Vec<Call> {
     vec![
         urgent_member(1),
         Call::Prepare { peer: 0, trigger: 0, ballot: 257 },
-        done(Entry::PrepareBal, 0, 40),
+        done(Entry::PrepareBal, 0, 257, 40),
         Call::Timeout { source: 0 },
-        done(Entry::PrepareBal, 0, 80),
+        done(Entry::PrepareBal, 0, 514, 80),
         reply(0, 514, (0, 0, 1), None),
         reply(0, 514, (1, 0, 1), None),
-        done(Entry::AcceptData, 1, 120),
+        done(Entry::AcceptData, 1, 514, 120),
         Call::AcceptReply { peer: 2, slot: 1, ballot: 514 },
     ]
 }
@@ -108,12 +108,13 @@ fn late_at_2() -> Vec<Call> {
         urgent_member(2),
         Call::Accept { peer: 0, slot: 1, ballot: 257, batch: seven() },
         Call::Prepare { peer: 1, trigger: 0, ballot: 514 },
-        done(Entry::AcceptData, 1, 40),
+        // The entry was written at 257, the slot is at 514: the answer is at 514.
+        done(Entry::AcceptData, 1, 257, 40),
         Call::Timeout { source: 1 },
-        done(Entry::PrepareBal, 0, 80),
-        done(Entry::PrepareBal, 1, 120),
+        done(Entry::PrepareBal, 0, 771, 80),
+        done(Entry::PrepareBal, 1, 771, 120),
         reply(0, 771, (1, 0, 1), None),
-        done(Entry::AcceptData, 1, 160),
+        done(Entry::AcceptData, 1, 771, 160),
         Call::AcceptReply { peer: 0, slot: 1, ballot: 771 },
     ]
 }
@@ -167,8 +168,9 @@ fn urgent_member(id: u8) -> Call {
     Call::New { id, group: 3, start: 0, options: 1 }
 }
 
-pub(super) fn done(entry: Entry, slot: u64, size: u64) -> Call {
-    Call::LogDone { entry, slot, size }
+/// A completion at the ballot that the entry was written at.
+pub(super) fn done(entry: Entry, slot: u64, ballot: u64, size: u64) -> Call {
+    Call::LogDone { entry, slot, ballot, size }
 }
 
 fn seven() -> Batch {

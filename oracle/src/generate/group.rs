@@ -30,7 +30,8 @@ pub struct World<'r> {
 #[derive(Default)]
 pub(super) struct Member {
     session: Session,
-    log: Vec<(Entry, u64)>,
+    /// Each entry's type, slot and ballot: what its completion says.
+    log: Vec<(Entry, u64, u64)>,
     executions: Vec<u64>,
 }
 
@@ -165,11 +166,12 @@ impl<'r> World<'r> {
     fn route(&mut self, from: u8, outcome: &Outcome) {
         for action in &outcome.actions {
             let member = &mut self.members[usize::from(from)];
+            let Action { slot, ballot, .. } = *action;
             match action.kind {
-                Kind::PrepareBal => member.log.push((Entry::PrepareBal, action.slot)),
-                Kind::AcceptData => member.log.push((Entry::AcceptData, action.slot)),
-                Kind::CommitSlot => member.log.push((Entry::CommitSlot, action.slot)),
-                Kind::Execute => member.executions.push(action.slot),
+                Kind::PrepareBal => member.log.push((Entry::PrepareBal, slot, ballot)),
+                Kind::AcceptData => member.log.push((Entry::AcceptData, slot, ballot)),
+                Kind::CommitSlot => member.log.push((Entry::CommitSlot, slot, ballot)),
+                Kind::Execute => member.executions.push(slot),
                 _ => self.post(from, action),
             }
         }
@@ -212,12 +214,13 @@ impl<'r> World<'r> {
         let growth = self.rng.below(60);
         let member = &mut self.members[usize::from(of)];
         let place = if overtakes { self.rng.index(member.log.len()) } else { 0 };
-        let (entry, slot) = if repeated { member.log[place] } else { member.log.remove(place) };
+        let (entry, slot, ballot) =
+            if repeated { member.log[place] } else { member.log.remove(place) };
         if missing {
             return;
         }
         let size = (member.replica().wal_offset as u64).saturating_add(growth);
-        self.deliver(of, Call::LogDone { entry, slot, size });
+        self.deliver(of, Call::LogDone { entry, slot, ballot, size });
     }
 
     fn finish_execution(&mut self) {

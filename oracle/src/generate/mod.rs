@@ -15,7 +15,7 @@ pub use examples::example;
 use group::World;
 use habits::Habits;
 pub use refusals::refusals;
-use rng::Rng;
+pub(crate) use rng::Rng;
 
 #[derive(Debug, Clone, Copy, PartialEq, Eq)]
 pub enum Profile {

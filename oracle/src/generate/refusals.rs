@@ -111,7 +111,7 @@ fn offers() -> Vec<Answered> {
     calls.push((offer(1, &[1]), 9));
     calls.push((Call::Timeout { source: 0 }, 0));
     calls.push((offer(1, &[1]), 9));
-    calls.push((done(Entry::PrepareBal, 0, 40), 0));
+    calls.push((done(Entry::PrepareBal, 0, 257, 40), 0));
     calls.extend(bad);
     // The table of 256 keys is full with these, and then the window.
     for batch in 1..=32 {

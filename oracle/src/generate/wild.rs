@@ -53,7 +53,7 @@ pub(super) fn call(rng: &mut Rng, replica: &Replica) -> Call {
         8 | 9 => {
             let entry = rng.pick(&[Entry::PrepareBal, Entry::AcceptData, Entry::CommitSlot]);
             let size = (replica.wal_offset as u64).saturating_add(rng.below(3));
-            Call::LogDone { entry, slot, size }
+            Call::LogDone { entry, slot, ballot, size }
         }
         _ => Call::Executed { slot: committed(replica).filter(|_| rng.often(500)).unwrap_or(slot) },
     }

@@ -1,7 +1,7 @@
 //! What the source gave its hubs, as 01's actions.
 
 use super::Replica;
-use super::multipaxos::{PeerMsg, Status, WalEntry};
+use super::multipaxos::{Ballot, PeerMsg, Status, WalEntry};
 use super::recorder::{self, Given};
 use super::server::{ApiReply, ClientId, CommandResult, LogActionId};
 use crate::action::{ALL, Action, Kind};
@@ -10,9 +10,14 @@ use crate::batch::{Batch, number};
 /// The actions recorded since the last call, which the replica has just run.
 pub(crate) fn take(replica: &Replica) -> Vec<Action> {
     let mut actions: Vec<Action> = Vec::new();
-    for given in recorder::take() {
+    let mut list = recorder::take().into_iter();
+    while let Some(given) = list.next() {
         let action = match given {
+            Given::Entry(id, entry @ WalEntry::CommitSlot { .. }) => {
+                Action { ballot: commit_ballot(list.next(), id.0), ..logged(id, entry) }
+            }
             Given::Entry(id, entry) => logged(id, entry),
+            Given::CommitBallot(..) => must_not_be_reached!("a ballot without its CommitSlot"),
             Given::Message(msg, peer) => Action { member: peer.into(), ..message(msg) },
             Given::Broadcast(msg) => Action { member: ALL, ..message(msg) },
             Given::Status { step_up: true } => of(Kind::StatusUp),
@@ -45,6 +50,23 @@ fn opened_before(last: Option<Action>, slot: u64) -> Action {
         Some(last) if last.kind == Kind::Execute && last.slot == slot => last,
         _ => must_not_be_reached!("a batch's later command before its first"),
     }
+}
+
+/// What the source says right after it submitted a CommitSlot entry for the slot.
+fn commit_ballot(next: Option<Given>, slot: usize) -> Ballot {
+    match next {
+        Some(Given::CommitBallot(of, ballot)) if of == slot => ballot,
+        _ => must_not_be_reached!("a CommitSlot without its ballot"),
+    }
+}
+
+/// Whether each CommitSlot's ballot is still its slot's as the call leaves it.
+pub(crate) fn commits_have_their_slots_ballots(replica: &Replica, actions: &[Action]) -> bool {
+    let mut commits = actions.iter().filter(|action| action.kind == Kind::CommitSlot);
+    commits.all(|commit| {
+        let place = commit.slot as usize - replica.start_slot;
+        commit.ballot == replica.insts[place].bal
+    })
 }
 
 fn logged(id: LogActionId, entry: WalEntry) -> Action {
@@ -116,5 +138,52 @@ fn read_answer(reply: ApiReply, client: ClientId) -> Action {
             Action::read_answer(client, id, 2, number(&value))
         }
         ApiReply::Normal { .. } => must_not_be_reached!("a reply that is no read's"),
+    }
+}
+
+#[cfg(test)]
+mod tests {
+    use super::*;
+
+    fn submitted(slot: usize) -> Given {
+        Given::Entry((slot, Status::Committed), WalEntry::CommitSlot { slot })
+    }
+
+    fn taken(list: impl IntoIterator<Item = Given>) -> Vec<Action> {
+        list.into_iter().for_each(recorder::record);
+        take(&Replica::fresh(0, 1, 0, false, false))
+    }
+
+    #[test]
+    fn a_commit_slot_has_the_ballot_that_follows_it() {
+        let list = [submitted(3), Given::CommitBallot(3, 514), submitted(4)];
+        let actions = taken(list.into_iter().chain([Given::CommitBallot(4, 0)]));
+        let told: Vec<_> =
+            actions.iter().map(|given| (given.kind, given.slot, given.ballot)).collect();
+        assert_eq!(told, [(Kind::CommitSlot, 3, 514), (Kind::CommitSlot, 4, 0)]);
+    }
+
+    #[test]
+    #[should_panic(expected = "a CommitSlot without its ballot")]
+    fn none_follows() {
+        taken([submitted(3), Given::Status { step_up: true }]);
+    }
+
+    #[test]
+    #[should_panic(expected = "a CommitSlot without its ballot")]
+    fn none_follows_the_last() {
+        taken([submitted(3)]);
+    }
+
+    #[test]
+    #[should_panic(expected = "a CommitSlot without its ballot")]
+    fn another_slots_follows() {
+        taken([submitted(3), Given::CommitBallot(4, 514)]);
+    }
+
+    #[test]
+    #[should_panic(expected = "a ballot without its CommitSlot")]
+    fn a_second_one_follows() {
+        taken([submitted(3), Given::CommitBallot(3, 514), Given::CommitBallot(3, 514)]);
     }
 }

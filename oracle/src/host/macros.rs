@@ -1,6 +1,11 @@
-//! The source's macros: silent, and without evaluating what they would print.
+//! The source's macros: silent, and without evaluating what they would print; but for one line.
 
+/// Right after a CommitSlot entry was submitted the source traces its slot and its instance's
+/// ballot, which the entry lacks: the ballot is recorded (02, Wish 5).
 macro_rules! pf_trace {
+    ("submitted CommitSlot log action for slot {} bal {}", $slot:expr, $ballot:expr $(,)?) => {
+        $crate::host::recorder::record($crate::host::recorder::Given::CommitBallot($slot, $ballot))
+    };
     ($($part:tt)*) => { if false { let _ = format_args!($($part)*); } };
 }
 

@@ -2,14 +2,18 @@
 
 use std::cell::RefCell;
 
-use super::multipaxos::{PeerMsg, WalEntry};
+use super::multipaxos::{Ballot, PeerMsg, WalEntry};
 use super::server::{ApiReply, ClientId, Command, CommandId, LogActionId, ReplicaId};
 
 pub(crate) enum Given {
     Entry(LogActionId, WalEntry),
+    /// The ballot of the CommitSlot entry before it, for its slot.
+    CommitBallot(usize, Ballot),
     Message(PeerMsg, ReplicaId),
     Broadcast(PeerMsg),
-    Status { step_up: bool },
+    Status {
+        step_up: bool,
+    },
     Command(CommandId, Command),
     Reply(ApiReply, ClientId),
 }
@@ -37,8 +41,9 @@ pub(crate) fn count() -> usize {
 }
 
 impl Given {
-    /// One Execute stands for all commands of a batch: its first begins it.
+    /// One Execute stands for all commands of a batch: its first begins it. A CommitSlot's ballot
+    /// belongs to the entry before it.
     fn begins_an_action(&self) -> bool {
-        !matches!(self, Given::Command((_, 1..), _))
+        !matches!(self, Given::Command((_, 1..), _) | Given::CommitBallot(..))
     }
 }

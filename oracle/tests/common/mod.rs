@@ -141,8 +141,9 @@ pub fn with_vote(call: Call, vote: (u64, Batch)) -> Call {
     Call::PrepareReply { peer, slot, trigger, endprep, ballot, vote: Some(vote), bar }
 }
 
-pub fn done(entry: Entry, slot: u64) -> Call {
-    Call::LogDone { entry, slot, size: 100 }
+/// A completion at the ballot that the entry was written at.
+pub fn done(entry: Entry, slot: u64, ballot: u64) -> Call {
+    Call::LogDone { entry, slot, ballot, size: 100 }
 }
 
 pub fn timeout(source: u8) -> Call {
@@ -169,7 +170,7 @@ pub fn read_reply(peer: u8, read: u64, known: &[Known]) -> Call {
 pub fn prepared_leader(group: u8, start: u64) -> Member {
     let mut leader = Member::new(0, group, start);
     leader.does(timeout(0));
-    leader.does(done(Entry::PrepareBal, start));
+    leader.does(done(Entry::PrepareBal, start, 257));
     for peer in 1..=group / 2 {
         leader.does(prepare_reply(peer, 257, start));
     }
