@@ -5,7 +5,6 @@ use mathlib.Core.List.{List, List·Memᴰ·not-nil}
 use mathlib.Core.Logic.{_⊎_, inl, inr}
 use Prim.Native.Nat.{ℕ, _+_, _-_, _≤_}
 use native.Mathlib.Omega.{arith}
-use Rattle.base.specs.Pick.{pick-cases}
 use Rattle.base.specs.Among.{_∈_, all-in}
 use Rattle.members.specs.Sets.{has}
 use Rattle.batch.specs.declared.Batch.{Batch}
@@ -14,13 +13,11 @@ use Rattle.actions.specs.declared.Action.the-variants.{AcceptReply}
 use Rattle.actions.specs.Actions.{Act}
 use Rattle.slots.specs.declared.Vote.{Vote}
 use Rattle.slots.specs.declared.Slot.{Slot}
-use Rattle.decide.specs.Scalars.{mayBe}
 use Rattle.window.specs.declared.Window.{Window}
 use Rattle.window.specs.ByPlace.{atPlace}
 use Rattle.replica.specs.declared.Replica.{Replica}
-use Rattle.replica.specs.declared.Made.{Made}
 use Rattle.replica.specs.declared.Entry.the-variants.{AcceptData}
-use Rattle.replica.specs.Record.{Outcome, newReplica, fresh, zeroReplica, place, number}
+use Rattle.replica.specs.Record.{Outcome, place, number}
 use Rattle.replica.specs.Step.{Call, callAcceptReply, callLogged, step}
 use Rattle.laws.specs.Theorems.{refusals-silent, group-stays}
 use Rattle.laws.specs.WaysDurability.{completion}
@@ -31,7 +28,7 @@ use Rattle.voting.specs.Speaking.{SaidOf, OnCompletion, says-ok}
 use Rattle.agreement.specs.BySlot.{numbered, numbered-at}
 use Rattle.agreement.specs.Theorem.{Group, World, slotOf, put, begin, May, Reach, begins, turn, acceptEntry}
 use Rattle.agreement.specs.Frame.{Marked, ActOk}
-use Rattle.agreement.specs.Group.{viewOf, each, old, cases, inv, good-in, framed, agreement-of}
+use Rattle.agreement.specs.Group.{viewOf, old, cases, inv, good-in, stays-in, framed, agreement-of}
 use Rattle.agreement.specs.Commits.{numbered-here}
 use Rattle.agreement.specs.Worlds.{accepted}
 use Rattle.agreement.specs.Acks.{HasReplied, Truthful, reply-sent, fine-in, acks-sent}
@@ -68,19 +65,8 @@ OwnCommitChosen = (g : Group) (w : World) (r : Reach g w) → Truthful r → (l 
     → Chosen (g .size) (accepted w s) (proposalAt w l s)
 
 -- ── every member's group is the group ──
-made-sized : (g : Group) (m : ℕ) → g .present m ≡ true → begin g .replica m .sc .group ≡ g .size
-unfolding begin newReplica
-made-sized g m p =
-    pick-cases (λ (z : Made). z .answer ≡ 0 → z .replica .sc .group ≡ g .size) (mayBe m (g .size) (g .start) (g .options m))
-    {a = record { answer = 0; replica = fresh m (g .size) (g .start) (g .options m) }}
-    {b = record { answer = 10; replica = zeroReplica }}
-    (λ t e. refl) (λ t e. absurd (omega arith)) (g .made m p)
-
 pub sized-in : (g : Group) (w : World) → Reach g w → (m : ℕ) → g .present m ≡ true → w .replica m .sc .group ≡ g .size
-sized-in g w begins = made-sized g
-sized-in g w (turn {w = u} r m p room c a) = λ j.
-    each u m (step (u .replica m) room c) (λ j r h. g .present j ≡ true → r .sc .group ≡ g .size) j (λ _. sized-in g u r j)
-    (λ _. group-stays (u .replica m) room c ∙ sized-in g u r m p)
+sized-in g = stays-in (λ (r : Replica). r .sc .group) g (λ w r m p room c. group-stays (w .replica m) room c)
 
 -- ── in a truthful run a reply has its accept entry ──
 numbered-place : (from : ℕ) (w : Window) (s : ℕ) → from ≤ s → numbered from w s ≡ atPlace w (s - from)

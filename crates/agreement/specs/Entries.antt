@@ -1,23 +1,17 @@
 -- What a log holds, whatever the calls: each log action's slot is one of the 64 from the group's start on, an accept entry's batch is clean, and prepare
 -- and commit entries have no keys.
-use mathlib.Core.Path.{_≡_, refl, _∙_, subst}
-use mathlib.Core.Bool.{Bool, true, false}
-use mathlib.Core.List.{List}
-use mathlib.Core.Logic.{_⊎_, inl, inr}
+use mathlib.Core.Path.{_≡_, subst}
+use mathlib.Core.Bool.{true}
 use Prim.Native.Nat.{ℕ}
-use native.Mathlib.Omega.{arith}
-use Rattle.base.specs.Pick.{pick-cases, decide}
 use Rattle.base.specs.Among.{_∈_, All, all-in, all-append, all-map}
 use Rattle.batch.specs.declared.Batch.{Batch}
 use Rattle.actions.specs.Actions.{Act}
-use Rattle.decide.specs.Scalars.{mayBe}
 use Rattle.replica.specs.declared.Replica.{Replica}
-use Rattle.replica.specs.declared.Made.{Made}
-use Rattle.replica.specs.Record.{Outcome, newReplica, fresh, zeroReplica}
-use Rattle.replica.specs.Step.{Call, step}
-use Rattle.agreement.specs.Theorem.{Group, World, begin, May, Reach, begins, turn, acceptEntry}
+use Rattle.replica.specs.Record.{Outcome}
+use Rattle.replica.specs.Step.{step}
+use Rattle.agreement.specs.Theorem.{Group, World, begin, Reach, begins, turn, acceptEntry}
 use Rattle.agreement.specs.Frame.{Clean, InWindow, Loggable, ActOk}
-use Rattle.agreement.specs.Group.{viewOf, each, framed}
+use Rattle.agreement.specs.Group.{viewOf, each, stays-in, framed}
 
 abbrev pub EntryOk : ℕ → Act → Type 0
 EntryOk start a = Loggable start (a .keys) (a .what)
@@ -25,22 +19,10 @@ EntryOk start a = Loggable start (a .keys) (a .what)
 abbrev pub EntriesFit : Type 0
 EntriesFit = (g : Group) (w : World) → Reach g w → (m : ℕ) → All (EntryOk (g .start)) (w .did m)
 
--- ── every present member's log begins at the group's start ──
-made-start : (g : Group) (m : ℕ) → g .present m ≡ true → begin g .replica m .sc .start ≡ g .start
-unfolding begin newReplica
-made-start g m p =
-    pick-cases (λ (z : Made). z .answer ≡ 0 → z .replica .sc .start ≡ g .start) (mayBe m (g .size) (g .start) (g .options m))
-    {a = record { answer = 0; replica = fresh m (g .size) (g .start) (g .options m) }}
-    {b = record { answer = 10; replica = zeroReplica }}
-    (λ t e. refl) (λ t e. absurd (omega arith)) (g .made m p)
-
+-- every present member's log begins at the group's start
 pub starts-in : (g : Group) (w : World) → Reach g w → (m : ℕ) → g .present m ≡ true → w .replica m .sc .start ≡ g .start
-starts-in g w begins = made-start g
-starts-in g w (turn {w = u} r m p room c a) = λ j.
-    each u m (step (u .replica m) room c) (λ j r h. g .present j ≡ true → r .sc .start ≡ g .start) j (λ _. starts-in g u r j)
-    (λ _. framed g u r m p room c .fixed ∙ starts-in g u r m p)
+starts-in g = stays-in (λ (r : Replica). r .sc .start) g (λ w r m p room c. framed g w r m p room c .fixed)
 
--- ── the theorem ──
 none-yet : (g : Group) (m : ℕ) → All (EntryOk (g .start)) (begin g .did m)
 unfolding begin
 none-yet g m = tt

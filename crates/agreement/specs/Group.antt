@@ -23,7 +23,7 @@ use Rattle.window.specs.Window.{noSlots}
 use Rattle.window.specs.ByPlace.{at-past}
 use Rattle.replica.specs.declared.Replica.{Replica}
 use Rattle.replica.specs.declared.Made.{Made}
-use Rattle.replica.specs.Record.{Outcome, newReplica, fresh, logEnd}
+use Rattle.replica.specs.Record.{Outcome, newReplica, fresh, zeroReplica, logEnd}
 use Rattle.replica.specs.Messages.{clean}
 use Rattle.replica.specs.Step.{Call, callPrepare, callPrepareReply, callAccept, callAcceptReply, callCommitNotice, callTimeout, callLogged, callOffer, callExecuted, callOpenRead, callReadReply, step, received}
 use Rattle.agreement.specs.BySlot.{by-place}
@@ -265,6 +265,24 @@ pub good-in : (g : Group) (w : World) → Reach g w → (m : ℕ) → g .present
 good-in g w begins = start-good g
 good-in g w (turn {w = u} r m p room c a) = λ j.
     each u m (step (u .replica m) room c) (λ j r h. g .present j ≡ true → GoodReplica r) j (λ _. good-in g u r j) (λ _. step-ok (u .replica m) room c (good-in g u r m p) .good)
+
+-- a present member was made
+pub made-fresh : (g : Group) (m : ℕ) → g .present m ≡ true → begin g .replica m ≡ fresh m (g .size) (g .start) (g .options m)
+unfolding begin newReplica
+made-fresh g m p =
+    pick-cases (λ (z : Made). z .answer ≡ 0 → z .replica ≡ fresh m (g .size) (g .start) (g .options m)) (mayBe m (g .size) (g .start) (g .options m))
+    {a = record { answer = 0; replica = fresh m (g .size) (g .start) (g .options m) }}
+    {b = record { answer = 10; replica = zeroReplica }}
+    (λ _ _. refl) (λ _ e. absurd (omega arith)) (g .made m p)
+
+-- what each call keeps of a present member is what it was made with
+pub stays-in : {A : Type 0} (p : Replica → A) (g : Group)
+    → ((w : World) → Reach g w → (m : ℕ) → g .present m ≡ true → (room : ℕ) (c : Call) → p (step (w .replica m) room c .replica) ≡ p (w .replica m))
+    → (w : World) → Reach g w → (m : ℕ) → g .present m ≡ true → p (w .replica m) ≡ p (fresh m (g .size) (g .start) (g .options m))
+stays-in p g k w begins = λ m l. ap p (made-fresh g m l)
+stays-in p g k w (turn {w = u} r m l room c a) = λ j.
+    each u m (step (u .replica m) room c) (λ j q h. g .present j ≡ true → p q ≡ p (fresh j (g .size) (g .start) (g .options j))) j
+    (λ _. stays-in p g k u r j) (λ z. k u r m l room c ∙ stays-in p g k u r m z)
 
 pub framed : (g : Group) (w : World) → Reach g w → (m : ℕ) → g .present m ≡ true → (room : ℕ) (c : Call)
     → Frame (viewOf (w .replica m)) c (step (w .replica m) room c .answer) (viewOf (step (w .replica m) room c .replica)) (step (w .replica m) room c .actions)

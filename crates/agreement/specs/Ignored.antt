@@ -2,11 +2,11 @@
 -- logs, messages and marks.
 use mathlib.Core.Path.{_≡_, refl, _∙_, ap, subst}
 use mathlib.Core.Bool.{true}
+use mathlib.Core.List.{List, [], _∷_, map}
 use Prim.Native.Nat.{ℕ}
 use Rattle.replica.specs.declared.Done.{Done}
 use Rattle.replica.specs.Step.{Call, callPrepare, callPrepareReply, callAccept, callAcceptReply, callCommitNotice, callTimeout, callLogged, callOffer, callExecuted, callOpenRead, callReadReply, step}
-use Rattle.laws.specs.WaysDurability.{completion}
-use Rattle.laws.specs.BallotIgnored.{Alike, same-call, same-entry, ballot-ignored}
+use Rattle.laws.specs.BallotIgnored.{Alike, ballot-ignored, saying, saying-alike}
 use Rattle.agreement.specs.Theorem.{Group, World, put, begin, May, logged, Reach, begins, turn}
 
 -- two runs that are alike turn by turn: the same member, the same room, and calls that are alike
@@ -24,35 +24,14 @@ worlds-agree _ _ _ _ (both-turn {w} {w′} {r} {r′} l m p room c c′ a a′ e
     let does : step (w .replica m) room c ≡ step (w′ .replica m) room c′ = ap (λ (u : World). step (u .replica m) room c) before ∙ ballot-ignored (w′ .replica m) room c c′ e in
     λ k. put (before k) m (does k)
 
+-- the calls of a run, the last one first
+abbrev pub callsOf : {g : Group} {w : World} → Reach g w → List Call
+callsOf begins = []
+callsOf (turn r m p room c a) = c ∷ callsOf r
+
 -- ── that it is about every run: with any ballots in its completions it is a run, and comes to the same world ──
 module _ (f : Done → ℕ) where
-  abbrev pub saying : Call → Call
-  saying (callLogged d) = callLogged (completion (d .entry) (d .slot) (f d) (d .size))
-  saying (callPrepare peer trigger ballot) = callPrepare peer trigger ballot
-  saying (callPrepareReply peer m) = callPrepareReply peer m
-  saying (callAccept peer slot ballot b) = callAccept peer slot ballot b
-  saying (callAcceptReply peer slot ballot) = callAcceptReply peer slot ballot
-  saying (callCommitNotice peer ballot bar) = callCommitNotice peer ballot bar
-  saying (callTimeout source) = callTimeout source
-  saying (callOffer b) = callOffer b
-  saying (callExecuted slot) = callExecuted slot
-  saying (callOpenRead id count keys) = callOpenRead id count keys
-  saying (callReadReply peer id fromLeader reply) = callReadReply peer id fromLeader reply
-
-  saying-alike : (c : Call) → Alike c (saying c)
-  saying-alike (callLogged d) = same-entry (d .entry) (d .slot) (d .ballot) (f d) (d .size)
-  saying-alike (callPrepare peer trigger ballot) = same-call _
-  saying-alike (callPrepareReply peer m) = same-call _
-  saying-alike (callAccept peer slot ballot b) = same-call _
-  saying-alike (callAcceptReply peer slot ballot) = same-call _
-  saying-alike (callCommitNotice peer ballot bar) = same-call _
-  saying-alike (callTimeout source) = same-call _
-  saying-alike (callOffer b) = same-call _
-  saying-alike (callExecuted slot) = same-call _
-  saying-alike (callOpenRead id count keys) = same-call _
-  saying-alike (callReadReply peer id fromLeader reply) = same-call _
-
-  may-say : {w : World} {m room : ℕ} (c : Call) → May w m room c → May w m room (saying c)
+  may-say : {w : World} {m room : ℕ} (c : Call) → May w m room c → May w m room (saying f c)
   may-say (callLogged d) a = logged _
   may-say (callPrepare peer trigger ballot) a = a
   may-say (callPrepareReply peer m) a = a
@@ -65,9 +44,9 @@ module _ (f : Done → ℕ) where
   may-say (callOpenRead id count keys) a = a
   may-say (callReadReply peer id fromLeader reply) a = a
 
-  pub any-ballots : {g : Group} {w : World} (r : Reach g w) → (w′ : World) × (r′ : Reach g w′) × AlikeReach g w w′ r r′
-  any-ballots {g} begins = (begin g, begins, both-begin)
+  pub any-ballots : {g : Group} {w : World} (r : Reach g w) → (w′ : World) × (r′ : Reach g w′) × AlikeReach g w w′ r r′ × (callsOf r′ ≡ map (saying f) (callsOf r))
+  any-ballots {g} begins = (begin g, begins, both-begin, refl)
   any-ballots (turn {w = u} r m p room c a) =
-      let (u′, r′, l) = any-ballots r in
-      let a′ : May u′ m room (saying c) = subst (λ (v : World). May v m room (saying c)) (worlds-agree u u′ r r′ l) (may-say c a) in
-      (put u′ m (step (u′ .replica m) room (saying c)), turn r′ m p room (saying c) a′, both-turn l m p room c (saying c) a a′ (saying-alike c))
+      let (u′, r′, l, e) = any-ballots r in
+      let a′ : May u′ m room (saying f c) = subst (λ (v : World). May v m room (saying f c)) (worlds-agree u u′ r r′ l) (may-say c a) in
+      (put u′ m (step (u′ .replica m) room (saying f c)), turn r′ m p room (saying f c) a′, both-turn l m p room c (saying f c) a a′ (saying-alike f c), λ k. saying f c ∷ e k)

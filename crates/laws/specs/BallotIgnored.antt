@@ -4,8 +4,9 @@ use mathlib.Core.Path.{_≡_, refl}
 use Prim.Native.Nat.{ℕ}
 use Rattle.replica.specs.declared.Replica.{Replica}
 use Rattle.replica.specs.declared.Entry.{Entry}
+use Rattle.replica.specs.declared.Done.{Done}
 use Rattle.replica.specs.Durability.{loggedStep}
-use Rattle.replica.specs.Step.{Call, callLogged, step}
+use Rattle.replica.specs.Step.{Call, callPrepare, callPrepareReply, callAccept, callAcceptReply, callCommitNotice, callTimeout, callLogged, callOffer, callExecuted, callOpenRead, callReadReply, step}
 use Rattle.laws.specs.WaysDurability.{completion}
 
 -- two calls that are one, or completions that differ at most in the ballot
@@ -18,3 +19,31 @@ pub ballot-ignored : (r : Replica) (room : ℕ) (c c′ : Call) → Alike c c′
 unfolding loggedStep
 ballot-ignored r room _ _ (same-call c) = refl
 ballot-ignored r room _ _ (same-entry entry slot ballot ballot′ size) = refl
+
+-- ── any call with any ballot in its place, if it is a completion, is alike ──
+module _ (f : Done → ℕ) where
+  abbrev pub saying : Call → Call
+  saying (callLogged d) = callLogged (completion (d .entry) (d .slot) (f d) (d .size))
+  saying (callPrepare peer trigger ballot) = callPrepare peer trigger ballot
+  saying (callPrepareReply peer m) = callPrepareReply peer m
+  saying (callAccept peer slot ballot b) = callAccept peer slot ballot b
+  saying (callAcceptReply peer slot ballot) = callAcceptReply peer slot ballot
+  saying (callCommitNotice peer ballot bar) = callCommitNotice peer ballot bar
+  saying (callTimeout source) = callTimeout source
+  saying (callOffer b) = callOffer b
+  saying (callExecuted slot) = callExecuted slot
+  saying (callOpenRead id count keys) = callOpenRead id count keys
+  saying (callReadReply peer id fromLeader reply) = callReadReply peer id fromLeader reply
+
+  pub saying-alike : (c : Call) → Alike c (saying c)
+  saying-alike (callLogged d) = same-entry (d .entry) (d .slot) (d .ballot) (f d) (d .size)
+  saying-alike (callPrepare peer trigger ballot) = same-call _
+  saying-alike (callPrepareReply peer m) = same-call _
+  saying-alike (callAccept peer slot ballot b) = same-call _
+  saying-alike (callAcceptReply peer slot ballot) = same-call _
+  saying-alike (callCommitNotice peer ballot bar) = same-call _
+  saying-alike (callTimeout source) = same-call _
+  saying-alike (callOffer b) = same-call _
+  saying-alike (callExecuted slot) = same-call _
+  saying-alike (callOpenRead id count keys) = same-call _
+  saying-alike (callReadReply peer id fromLeader reply) = same-call _

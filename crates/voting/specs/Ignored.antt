@@ -3,9 +3,10 @@ use mathlib.Core.Path.{_≡_, refl, _∙_, ap}
 use mathlib.Core.List.{List, [], _∷_}
 use Prim.Native.Nat.{ℕ}
 use Rattle.replica.specs.declared.Replica.{Replica}
+use Rattle.replica.specs.declared.Done.{Done}
 use Rattle.replica.specs.Record.{Outcome}
 use Rattle.replica.specs.Step.{Call}
-use Rattle.laws.specs.BallotIgnored.{Alike, ballot-ignored}
+use Rattle.laws.specs.BallotIgnored.{Alike, ballot-ignored, saying, saying-alike}
 use Rattle.voting.specs.History.{Lent, told, play}
 
 -- two lists of calls that are alike, call by call, each with the same room
@@ -28,3 +29,13 @@ runs-agree r _ _ (next room c c′ h h′ a more) =
       λ k. e k ∷ (ap (λ (q : Outcome). outcomes (q .replica) h) e ∙ x) k,
       ap (λ (q : Outcome). play (q .replica) h) e ∙ y,
     )
+
+-- that it is about every run: with any ballots in its completions
+module _ (f : Done → ℕ) where
+  abbrev pub sayingAll : List Lent → List Lent
+  sayingAll [] = []
+  sayingAll (c ∷ h) = record { room = c .room; call = saying f (c .call) } ∷ sayingAll h
+
+  pub any-run : (h : List Lent) → AlikeRuns h (sayingAll h)
+  any-run [] = none
+  any-run (c ∷ h) = next (c .room) (c .call) (saying f (c .call)) h (sayingAll h) (saying-alike f (c .call)) (any-run h)
