@@ -1,10 +1,12 @@
-//! Another program's told text beside the source's: the first record that differs, in words.
+//! Another program's told text beside the source's, or the model's where the replica is strict: the
+//! first record that differs, in words.
 
 use std::io::{self, BufRead, Read};
 
 use crate::call::Call;
 use crate::play::{Played, fill, play};
 use crate::record::{RECORD_BYTES, Record};
+use crate::shown::Shown;
 use crate::tell::Text;
 
 pub enum Agreement {
@@ -17,6 +19,8 @@ pub enum Agreement {
 pub struct Difference {
     pub number: u64,
     pub record: Option<String>,
+    /// Whose texts the two are.
+    pub whose: [&'static str; 2],
     pub ours: String,
     pub theirs: String,
 }
@@ -60,9 +64,17 @@ fn difference(
     Ok(Difference {
         number: played.number,
         record: Some(in_words(played.bytes)),
+        whose: [player(played.replica), THE_OTHER],
         ours: String::from_utf8_lossy(&text.bytes).into_owned(),
         theirs: String::from_utf8_lossy(other).into_owned(),
     })
+}
+
+pub(crate) const THE_OTHER: &str = "the other";
+
+/// Who plays it.
+pub(crate) fn player(replica: Option<Shown>) -> &'static str {
+    if replica.is_some_and(Shown::is_strict) { "the model" } else { "the Rust" }
 }
 
 /// More text than the trace has records.
@@ -75,6 +87,7 @@ fn past_the_end(records: u64, mut theirs: impl BufRead) -> io::Result<Agreement>
     Ok(Agreement::Differs(Difference {
         number: records + 1,
         record: None,
+        whose: [player(None), THE_OTHER],
         ours: String::new(),
         theirs: String::from_utf8_lossy(&other).into_owned(),
     }))
@@ -135,10 +148,10 @@ impl Difference {
         let after = pairs.take_while(|(one, two)| one == two).count();
         let (ours, theirs) = (&ours[..ours.len() - after], &theirs[..theirs.len() - after]);
         report += &format!("lines alike before and after: {before} and {after}\n");
-        report += &lines("the Rust", ours);
-        report += &lines("the other", theirs);
+        report += &lines(self.whose[0], ours);
+        report += &lines(self.whose[1], theirs);
         for (one, two) in ours.iter().zip(theirs) {
-            report += &named_differences(one, two);
+            report += &named_differences(self.whose, one, two);
         }
         if ours == theirs {
             report += "only the end of the last line differs\n";
@@ -167,19 +180,24 @@ const SLOT: &str = "slot ballot status external wal_offset \
     leading leading_trigger leading_endprep prepare_acks prepare_max_bal accept_acks \
     following source following_trigger following_endprep";
 
+/// What a strict replica tells beside these.
+const STRICT_SCALAR: &str = "leaders_trigger";
+const STRICT_SLOT: &str = "noted";
+
 /// Two lines of one kind and place, number by number.
-fn named_differences(ours: &str, theirs: &str) -> String {
+fn named_differences(whose: [&str; 2], ours: &str, theirs: &str) -> String {
     let (ours, theirs): (Vec<&str>, Vec<&str>) =
         (ours.split(' ').collect(), theirs.split(' ').collect());
-    let (letter, names) = match ours[0] {
-        "A" => (1, ACTION),
-        "S" => (1, SCALARS),
-        "F" => (1, SUMMARY),
-        "I" => (1, SLOT),
+    let (letter, names, strict_name) = match ours[0] {
+        "A" => (1, ACTION, None),
+        "S" => (1, SCALARS, Some(STRICT_SCALAR)),
+        "F" => (1, SUMMARY, None),
+        "I" => (1, SLOT, Some(STRICT_SLOT)),
         "P" | "K" | "R" | "Z" => return String::new(),
-        _ => (0, ANSWER),
+        _ => (0, ANSWER, None),
     };
-    let names: Vec<&str> = names.split_whitespace().collect();
+    let mut names: Vec<&str> = names.split_whitespace().collect();
+    names.extend(strict_name.filter(|_| ours.len() > names.len() + letter));
     let alike = letter == 0 || ours[0] == theirs[0];
     if !alike || ours.len() != theirs.len() || ours.len() != names.len() + letter {
         return String::new();
@@ -189,7 +207,7 @@ fn named_differences(ours: &str, theirs: &str) -> String {
     numbers
         .filter(|(_, (one, two))| one != two)
         .map(|(name, (one, two))| {
-            format!("{place}{name} is {one} in the Rust, {two} in the other\n")
+            format!("{place}{name} is {one} in {}, {two} in {}\n", whose[0], whose[1])
         })
         .collect()
 }

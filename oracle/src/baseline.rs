@@ -8,6 +8,7 @@ use crate::foresee;
 use crate::host::{Replica, recorder};
 use crate::record::{RECORD_BYTES, Record};
 use crate::refuse;
+use crate::shown::Shown;
 use crate::tell::Text;
 
 /// Input and output go through buffers of this size.
@@ -28,37 +29,47 @@ pub fn replay(mut input: impl Read, mut output: impl Write) -> io::Result<()> {
         }
         for bytes in block[..length].chunks(RECORD_BYTES) {
             number += 1;
-            let (answer, actions) = feed(&mut replica, bytes);
+            let (answer, actions) = feed(&mut replica, bytes).ok_or_else(|| strict(number))?;
             if text.bytes.len() + LONGEST_LINE > BUFFER {
                 output.write_all(&text.bytes)?;
                 text.bytes.clear();
             }
-            text.line(number, answer, actions, replica.as_ref());
+            text.line(number, answer, actions, replica.as_ref().map(Shown::Rust));
         }
     }
 }
 
-/// One record: its answer and the number of its actions.
-fn feed(replica: &mut Option<Replica>, bytes: &[u8]) -> (u8, usize) {
-    let Some(record) = Record::decode(bytes) else { return (13, 0) };
+/// The strict kind has no source that could be measured.
+fn strict(number: u64) -> io::Error {
+    let text =
+        format!("record {number} makes a strict replica; the baseline knows the base kind only");
+    io::Error::new(io::ErrorKind::Unsupported, text)
+}
+
+/// One record: its answer and the number of its actions; nothing where it makes a strict replica.
+fn feed(replica: &mut Option<Replica>, bytes: &[u8]) -> Option<(u8, usize)> {
+    let Some(record) = Record::decode(bytes) else { return Some((13, 0)) };
     let call = Call::from_record(&record);
     if let Call::New { id, group, start, options } = call {
         if refuse::new_replica_is_outside(id, group, start, options) {
-            return (10, 0);
+            return Some((10, 0));
+        }
+        if refuse::is_strict(options) {
+            return None;
         }
         let (urgent, disallow) = (options & 1 != 0, options & 2 != 0);
         *replica = Some(Replica::fresh(id, group, start as usize, urgent, disallow));
-        return (0, 0);
+        return Some((0, 0));
     }
-    let Some(replica) = replica else { return (1, 0) };
+    let Some(replica) = replica else { return Some((1, 0)) };
     let refusal = refuse::before_running(replica, &call);
     if let Some(answer) = refusal.or_else(|| foresee::refusal(replica, &call)) {
-        return (answer, 0);
+        return Some((answer, 0));
     }
     let answer = match call.run(replica) {
         Ok(()) => 0,
         Err(error) if error.is_a_conflict() => 12,
         Err(error) => panic!("an error without a number: {}", error.text()),
     };
-    (answer, recorder::count())
+    Some((answer, recorder::count()))
 }

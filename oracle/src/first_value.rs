@@ -3,13 +3,14 @@
 
 use std::io::{self, BufRead, Read, Write};
 
-use crate::agree::{Difference, in_words};
+use crate::agree::{Difference, THE_OTHER, in_words, player};
 use crate::call::{Call, Known};
 use crate::host::Replica;
 use crate::host::multipaxos::Knowledge;
 use crate::play::each_record;
 use crate::record::Record;
 use crate::session::Session;
+use crate::shown::Shown;
 use crate::tell::Text;
 use crate::utils::Bitmap;
 
@@ -37,9 +38,11 @@ fn conflict(told: &Known, held: &Knowledge) -> bool {
     }
 }
 
+/// A strict replica has one rule, the new one: it is played alike on both sides, and nothing parts.
 fn meets_nothing_here(session: &Session, bytes: &[u8]) -> bool {
     let call = Record::decode(bytes).map(|record| Call::from_record(&record));
-    session.replica().zip(call).is_some_and(|(replica, call)| value_meets_nothing(replica, &call))
+    let replica = session.replica().and_then(Shown::rust);
+    replica.zip(call).is_some_and(|(replica, call)| value_meets_nothing(replica, &call))
 }
 
 /// Writes the trace without the replies in which a value meets nothing held.
@@ -130,7 +133,8 @@ impl Wrong {
 
 fn wrong_at(what: &'static str, number: u64, bytes: &[u8], ours: String, theirs: String) -> Wrong {
     let record = (!bytes.is_empty()).then(|| in_words(bytes));
-    Wrong { what, difference: Difference { number, record, ours, theirs } }
+    let whose = [player(None), THE_OTHER];
+    Wrong { what, difference: Difference { number, record, whose, ours, theirs } }
 }
 
 /// Plays a record and tells it.

@@ -1,5 +1,6 @@
 //! The Rust of summerset's voting core, run behind the calls, answers and actions of the scope
-//! document: unchanged, but for the one branch that `rule` replaces.
+//! document: unchanged, but for the one branch that `rule` replaces. Beside it stands `model`, a
+//! replica written from the documents: it plays the strict kind, which the source lacks.
 
 #[macro_use]
 mod host;
@@ -17,11 +18,13 @@ mod foresee;
 pub mod generate;
 pub mod guard;
 pub mod merges;
+pub mod model;
 pub mod play;
 pub mod record;
 pub mod refuse;
 pub mod rule;
 pub mod session;
+pub mod shown;
 pub mod stats;
 pub mod tell;
 

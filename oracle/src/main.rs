@@ -11,6 +11,7 @@ use oracle::digest::Digest;
 use oracle::first_value::{Departures, departs, without_first_values};
 use oracle::generate::{self, Profile};
 use oracle::merges::{merges_of, tell_merges};
+use oracle::model::agree::model_agree;
 use oracle::play::play;
 use oracle::rule::OLD_RULE;
 use oracle::stats::Stats;
@@ -24,6 +25,9 @@ const USAGE: &str = "usage:
   oracle agree TRACE
                    another program's told text of TRACE on standard input; the first record
                    that differs, or how many agree
+  oracle model-agree
+                   a trace on standard input, played in base kind by the Rust and by the model that
+                   plays strict replicas; the first record that differs, or how many agree
   oracle departs TRACE
                    the same of a program that keeps the first value, with --old-rule: whether it
                    differs exactly at the records where a value meets nothing held
@@ -36,12 +40,13 @@ const USAGE: &str = "usage:
                    the Rust knows of the read after it
   oracle stats [TRACE..]
                    what the trace reaches, or what the named traces reach together
-  oracle gen SEED COUNT --profile group|fuzz|reads|mix|writes
-                   writes a trace of COUNT records, fixed by the seed
-  oracle example worked|keys|refusals|late-0|late-1|late-2|first-value
+  oracle gen SEED COUNT --profile group|fuzz|reads|mix|writes [--strict]
+                   writes a trace of COUNT records, fixed by the seed, of base or strict replicas
+  oracle example worked|keys|refusals|late-0|late-1|late-2|first-value|strict-edges
                    writes a trace made by hand: 01's worked example, the key table's edge, both
-                   sides of 01's refusals, a member of a run that commits one slot twice, or reads
-                   in which a value meets nothing held";
+                   sides of 01's refusals, a member of a run that commits one slot twice, reads in
+                   which a value meets nothing held, or both sides of the strict rules' edges
+The strict kind is played by a model of 02's rules, the base kind by the Rust.";
 
 enum Command {
     Replay,
@@ -49,6 +54,7 @@ enum Command {
     Digest,
     Baseline,
     Agree { trace: String },
+    ModelAgree,
     Departs { trace: String },
     WithoutFirstValues,
     OtherBallots { seed: u64 },
@@ -56,7 +62,7 @@ enum Command {
     Merges,
     Stats { traces: Vec<String> },
     Example { trace: Vec<u8> },
-    Generate { seed: u64, count: u64, profile: Profile },
+    Generate { seed: u64, count: u64, profile: Profile, strict: bool },
 }
 
 fn main() -> ExitCode {
@@ -77,7 +83,8 @@ fn main() -> ExitCode {
         Ok(code) => code,
         Err(error) => {
             eprintln!("oracle: {error}");
-            ExitCode::FAILURE
+            let not_for_this = error.kind() == io::ErrorKind::Unsupported;
+            ExitCode::from(if not_for_this { 2 } else { 1 })
         }
     }
 }
@@ -92,6 +99,10 @@ fn parse(words: &[String]) -> Result<Command, String> {
         ["baseline"] => Ok(Command::Baseline),
         ["merges-of"] => Ok(Command::MergesOf),
         ["merges"] => Ok(Command::Merges),
+        ["model-agree"] if OLD_RULE => {
+            Err("the model goes by the new rule: without --old-rule".to_string())
+        }
+        ["model-agree"] => Ok(Command::ModelAgree),
         ["agree", trace] => Ok(Command::Agree { trace: trace.to_string() }),
         ["agree", ..] => Err("agree takes TRACE".to_string()),
         ["departs" | "without-first-values", ..] if !OLD_RULE => {
@@ -111,16 +122,23 @@ fn parse(words: &[String]) -> Result<Command, String> {
         ["stats", traces @ ..] => {
             Ok(Command::Stats { traces: traces.iter().map(|name| name.to_string()).collect() })
         }
-        ["gen", seed, count, "--profile", profile] => Ok(Command::Generate {
-            seed: number("SEED", seed)?,
-            count: number("COUNT", count)?,
-            profile: Profile::named(profile)
-                .ok_or_else(|| format!("no profile is called '{profile}'"))?,
-        }),
-        ["gen", ..] => Err("gen takes SEED COUNT --profile NAME".to_string()),
-        [name @ ("replay" | "tell" | "digest" | "baseline" | "merges" | "merges-of"), ..] => {
-            Err(format!("{name} takes no arguments"))
+        ["gen", seed, count, "--profile", profile, kind @ ..]
+            if matches!(kind, [] | ["--strict"]) =>
+        {
+            Ok(Command::Generate {
+                seed: number("SEED", seed)?,
+                count: number("COUNT", count)?,
+                profile: Profile::named(profile)
+                    .ok_or_else(|| format!("no profile is called '{profile}'"))?,
+                strict: !kind.is_empty(),
+            })
         }
+        ["gen", ..] => Err("gen takes SEED COUNT --profile NAME, and --strict or not".to_string()),
+        [
+            name @ ("replay" | "tell" | "digest" | "baseline" | "model-agree" | "merges"
+            | "merges-of"),
+            ..,
+        ] => Err(format!("{name} takes no arguments")),
         [name, ..] => Err(format!("no command is called '{name}'")),
     }
 }
@@ -147,15 +165,8 @@ fn run(command: Command) -> io::Result<ExitCode> {
             })?;
             output.write_all(digest.finish().as_bytes())?;
         }
-        Command::Agree { trace } => {
-            let (said, code) = match agree(open(&trace)?, input)? {
-                Agreement::Whole(records) => (format!("{records} records agree\n"), 0),
-                Agreement::Differs(difference) => (difference.report(), 1),
-            };
-            output.write_all(said.as_bytes())?;
-            output.flush()?;
-            return Ok(ExitCode::from(code));
-        }
+        Command::Agree { trace } => return report(agree(open(&trace)?, input)?, output),
+        Command::ModelAgree => return report(model_agree(input)?, output),
         Command::Departs { trace } => {
             let (said, code) = match departs(open(&trace)?, input)? {
                 Ok(Departures { records, first_values, later }) => {
@@ -181,12 +192,23 @@ fn run(command: Command) -> io::Result<ExitCode> {
             output.write_all(stats.report().as_bytes())?;
         }
         Command::Example { trace } => output.write_all(&trace)?,
-        Command::Generate { seed, count, profile } => {
-            generate::generate(seed, count, profile, |bytes| output.write_all(bytes))?;
+        Command::Generate { seed, count, profile, strict } => {
+            let write = |bytes: &[u8]| output.write_all(bytes);
+            generate::generate_kind(seed, count, profile, strict, write)?;
         }
     }
     output.flush()?;
     Ok(ExitCode::SUCCESS)
+}
+
+fn report(agreement: Agreement, mut output: impl Write) -> io::Result<ExitCode> {
+    let (said, code) = match agreement {
+        Agreement::Whole(records) => (format!("{records} records agree\n"), 0),
+        Agreement::Differs(difference) => (difference.report(), 1),
+    };
+    output.write_all(said.as_bytes())?;
+    output.flush()?;
+    Ok(ExitCode::from(code))
 }
 
 fn open(trace: &str) -> io::Result<BufReader<File>> {

@@ -9,6 +9,7 @@ use crate::host::Replica;
 use crate::play::{Played, play};
 use crate::record::Record;
 use crate::session::Session;
+use crate::shown::Shown;
 use crate::tell::Text;
 
 /// A read's group: its quorum is five.
@@ -88,7 +89,11 @@ pub fn tell_merges(input: impl Read, output: &mut impl Write) -> io::Result<()> 
             _ => return Ok(()),
         };
         let name = Replica::read_name(read);
-        let open = played.replica.and_then(|replica| replica.quorum_reads.get(&name));
+        if played.replica.is_some_and(Shown::is_strict) {
+            return Err(strict(played.number));
+        }
+        let replica = played.replica.and_then(Shown::rust);
+        let open = replica.and_then(|replica| replica.quorum_reads.get(&name));
         let Some(open) = open.filter(|open| open.rq_acks.count() == merged) else {
             let text = format!("record {}: no merge into an open read", played.number);
             return Err(io::Error::new(io::ErrorKind::InvalidData, text));
@@ -97,6 +102,11 @@ pub fn tell_merges(input: impl Read, output: &mut impl Write) -> io::Result<()> 
         text.tally_line(played.outcome.answer, open);
         output.write_all(&text.bytes)
     })
+}
+
+fn strict(number: u64) -> io::Error {
+    let text = format!("record {number} meets a strict replica; merges knows the base kind only");
+    io::Error::new(io::ErrorKind::Unsupported, text)
 }
 
 fn call_of(played: &Played) -> Option<Call> {

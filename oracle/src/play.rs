@@ -2,16 +2,16 @@
 
 use std::io::{self, Read};
 
-use crate::host::Replica;
 use crate::record::RECORD_BYTES;
 use crate::session::{Outcome, Session};
+use crate::shown::Shown;
 
 /// What one record did.
 pub struct Played<'a> {
     pub number: u64,
     pub bytes: &'a [u8],
     pub outcome: &'a Outcome,
-    pub replica: Option<&'a Replica>,
+    pub replica: Option<Shown<'a>>,
 }
 
 pub fn play(input: impl Read, mut each: impl FnMut(Played) -> io::Result<()>) -> io::Result<()> {

@@ -12,9 +12,15 @@ pub const MOST_START: u64 = 1 << 32;
 pub const MOST_HIGHEST_KEYS: usize = 256;
 pub const MOST_READS: usize = 16;
 
-/// 10 for a new replica: group of 1, 3, 5, 7 or 9, a member's id, start up to 2^32, two options.
+/// 10 for a new replica: group of 1, 3, 5, 7 or 9, a member's id, start up to 2^32, two options and
+/// the kind.
 pub fn new_replica_is_outside(id: u8, group: u8, start: u64, options: u64) -> bool {
-    !matches!(group, 1 | 3 | 5 | 7 | 9) || id >= group || start > MOST_START || options > 3
+    !matches!(group, 1 | 3 | 5 | 7 | 9) || id >= group || start > MOST_START || options > 7
+}
+
+/// 02, Wish 6: the kind is "chosen when it is made (trace: 4 more in trigger)".
+pub fn is_strict(options: u64) -> bool {
+    options & 4 != 0
 }
 
 /// The first refusal of 2, 3, 10, 11, then 4, 8 and 9 where the source's own tests stand.

@@ -1,11 +1,14 @@
-//! A replica with its records: every record gets 01's answer, and a refusal changes nothing.
+//! A replica with its records: every record gets 01's answer, and a refusal changes nothing. The
+//! source plays the base kind, the model the strict one.
 
 use crate::action::{Action, ROOM};
 use crate::call::Call;
 use crate::guard::{self, Ended, Place};
 use crate::host::{Replica, actions, recorder};
+use crate::model;
 use crate::record::Record;
 use crate::refuse::{self, MOST_HIGHEST_KEYS};
+use crate::shown::Shown;
 
 #[derive(Debug, Clone, PartialEq, Eq)]
 pub struct Outcome {
@@ -16,7 +19,7 @@ pub struct Outcome {
 }
 
 impl Outcome {
-    fn refused(answer: u8) -> Self {
+    pub(crate) fn refused(answer: u8) -> Self {
         Outcome { answer, actions: Vec::new(), place: None }
     }
 }
@@ -24,10 +27,15 @@ impl Outcome {
 /// The replica of a trace; none until a first one is made.
 #[derive(Default)]
 pub struct Session {
-    live: Option<Live>,
+    player: Option<Player>,
 }
 
-/// The replica in use, and what is needed to have it back as it was before a call.
+enum Player {
+    Rust(Live),
+    Model(model::Replica),
+}
+
+/// The source's replica in use, and what is needed to have it back as it was before a call.
 struct Live {
     replica: Replica,
     copy: Replica,
@@ -38,8 +46,11 @@ struct Live {
 const CALLS_PER_COPY: usize = 32;
 
 impl Session {
-    pub fn replica(&self) -> Option<&Replica> {
-        self.live.as_ref().map(|live| &live.replica)
+    pub fn replica(&self) -> Option<Shown<'_>> {
+        self.player.as_ref().map(|player| match player {
+            Player::Rust(live) => Shown::Rust(&live.replica),
+            Player::Model(replica) => Shown::Model(replica),
+        })
     }
 
     /// One record of a trace, whole or cut short.
@@ -50,9 +61,9 @@ impl Session {
         }
     }
 
-    /// Changes the replica by hand, as if it had come so.
+    /// Changes the source's replica by hand, as if it had come so.
     pub(crate) fn change(&mut self, change: impl FnOnce(&mut Replica)) {
-        if let Some(live) = &mut self.live {
+        if let Some(Player::Rust(live)) = &mut self.player {
             change(&mut live.replica);
             live.copy = live.replica.clone();
             live.since_copy.clear();
@@ -64,16 +75,27 @@ impl Session {
             if refuse::new_replica_is_outside(id, group, start, options) {
                 return Outcome::refused(10);
             }
-            let (urgent, disallow) = (options & 1 != 0, options & 2 != 0);
-            let fresh = Replica::fresh(id, group, start as usize, urgent, disallow);
-            self.live = Some(Live::new(fresh));
+            self.player = Some(Player::new(id, group, start, options));
             return Outcome { answer: 0, actions: Vec::new(), place: None };
         }
-        match &mut self.live {
+        match &mut self.player {
             // The all-zero record is unfit.
             None => Outcome::refused(1),
-            Some(live) => live.call(call),
+            Some(Player::Rust(live)) => live.call(call),
+            Some(Player::Model(replica)) => replica.call(call),
         }
+    }
+}
+
+impl Player {
+    /// The numbers are not outside 01's and 02's.
+    fn new(id: u8, group: u8, start: u64, options: u64) -> Self {
+        if refuse::is_strict(options) {
+            let fresh = model::Replica::fresh(id, group, start, options);
+            return Player::Model(fresh.expect("the model makes what is not refused"));
+        }
+        let (urgent, disallow) = (options & 1 != 0, options & 2 != 0);
+        Player::Rust(Live::new(Replica::fresh(id, group, start as usize, urgent, disallow)))
     }
 }
 

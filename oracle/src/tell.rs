@@ -6,6 +6,7 @@ use crate::host::Replica;
 use crate::host::multipaxos::{Instance, Knowledge, QuorumReadBookkeeping, ReqBatch, Status};
 use crate::server::{ApiRequest, Command};
 use crate::session::Outcome;
+use crate::shown::Shown;
 
 const ABSENT_KEYS: usize = 8;
 
@@ -17,21 +18,12 @@ pub struct Text {
 
 impl Text {
     /// 01: number, answer, action count, bal_max_seen, accept_bar, commit_bar, exec_bar.
-    pub fn replay_line(&mut self, number: u64, outcome: &Outcome, replica: Option<&Replica>) {
+    pub fn replay_line(&mut self, number: u64, outcome: &Outcome, replica: Option<Shown>) {
         self.line(number, outcome.answer, outcome.actions.len(), replica);
     }
 
-    pub(crate) fn line(
-        &mut self,
-        number: u64,
-        answer: u8,
-        actions: usize,
-        replica: Option<&Replica>,
-    ) {
-        let state = replica.map_or([0; 4], |replica| {
-            let bars = [replica.accept_bar, replica.commit_bar, replica.exec_bar];
-            [replica.bal_max_seen, bars[0] as u64, bars[1] as u64, bars[2] as u64]
-        });
+    pub(crate) fn line(&mut self, number: u64, answer: u8, actions: usize, replica: Option<Shown>) {
+        let state = replica.map_or([0; 4], Shown::line);
         self.digits(number);
         self.numbers(&[u64::from(answer), actions as u64]);
         self.numbers(&state);
@@ -39,7 +31,7 @@ impl Text {
     }
 
     /// The whole text of a record.
-    pub fn told(&mut self, number: u64, outcome: &Outcome, replica: Option<&Replica>) {
+    pub fn told(&mut self, number: u64, outcome: &Outcome, replica: Option<Shown>) {
         self.replay_line(number, outcome, replica);
         for action in &outcome.actions {
             self.action(action);
@@ -51,12 +43,24 @@ impl Text {
     }
 
     fn action(&mut self, action: &Action) {
-        self.bytes.push(b'A');
-        self.numbers(&action.numbers());
+        self.row('A', &action.numbers());
+    }
+
+    /// A letter and its numbers.
+    pub(crate) fn row(&mut self, letter: char, numbers: &[u64]) {
+        self.bytes.push(letter as u8);
+        self.numbers(numbers);
         self.end_line();
     }
 
-    pub fn state(&mut self, replica: &Replica) {
+    pub fn state(&mut self, replica: Shown) {
+        match replica {
+            Shown::Rust(replica) => self.state_of_the_source(replica),
+            Shown::Model(replica) => replica.tell(self),
+        }
+    }
+
+    fn state_of_the_source(&mut self, replica: &Replica) {
         self.scalars(replica);
         self.summary(replica);
         self.peers(replica);

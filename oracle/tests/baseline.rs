@@ -7,6 +7,7 @@ use std::path::Path;
 use oracle::baseline;
 use oracle::generate::{PROFILES, generate};
 use oracle::play::play;
+use oracle::record::{RECORD_BYTES, Record};
 use oracle::tell::Text;
 
 fn lines_of_replay(trace: &[u8]) -> Vec<u8> {
@@ -54,6 +55,20 @@ fn on_traces_of_every_profile() {
     }
 }
 
+/// The trace with every strict replica made as a base one.
+fn in_base_kind(trace: &[u8]) -> Vec<u8> {
+    let mut base = Vec::with_capacity(trace.len());
+    for bytes in trace.chunks(RECORD_BYTES) {
+        match Record::decode(bytes) {
+            Some(record) if record.kind == 0 && (4..8).contains(&record.trigger) => {
+                base.extend(Record { trigger: record.trigger - 4, ..record }.encode());
+            }
+            _ => base.extend(bytes),
+        }
+    }
+    base
+}
+
 /// They hold every answer, 5, 6 and 7 among them.
 #[test]
 fn on_the_stored_samples() {
@@ -62,11 +77,21 @@ fn on_the_stored_samples() {
     for entry in fs::read_dir(samples).expect("the samples") {
         let path = entry.expect("a sample").path();
         if path.extension().is_some_and(|end| end == "trace") {
-            assert_alike(&path.display().to_string(), &fs::read(&path).expect("a trace"));
+            let trace = in_base_kind(&fs::read(&path).expect("a trace"));
+            assert_alike(&path.display().to_string(), &trace);
             seen += 1;
         }
     }
     assert!(seen >= 6, "samples are missing");
+}
+
+#[test]
+fn a_strict_replica_is_none_of_its_own() {
+    let sample = Path::new(env!("CARGO_MANIFEST_DIR")).join("samples/strict-edges.trace");
+    let trace = fs::read(sample).expect("a trace");
+    let error = baseline::replay(trace.as_slice(), Vec::new()).expect_err("it is strict");
+    assert_eq!(error.kind(), std::io::ErrorKind::Unsupported);
+    assert!(error.to_string().starts_with("record 2 makes a strict replica"), "{error}");
 }
 
 /// A trace's end at, before and after the end of a block that is read at once.

@@ -109,11 +109,16 @@ fn before_a_first_replica_the_record_is_all_zero() {
 #[test]
 fn a_seed_and_a_profile_fix_a_trace() {
     for profile in ["group", "fuzz", "reads", "mix"] {
-        let gen_with = |seed| oracle(&["gen", seed, "700", "--profile", profile], b"").stdout;
-        let trace = gen_with("3");
-        assert_eq!(trace.len().div_ceil(256), 700);
-        assert_eq!(trace, gen_with("3"));
-        assert_ne!(trace, gen_with("4"));
+        for kind in [&[][..], &["--strict"]] {
+            let gen_with = |seed| {
+                let words = [&["gen", seed, "700", "--profile", profile], kind].concat();
+                oracle(&words, b"").stdout
+            };
+            let trace = gen_with("3");
+            assert_eq!(trace.len().div_ceil(256), 700);
+            assert_eq!(trace, gen_with("3"));
+            assert_ne!(trace, gen_with("4"));
+        }
     }
 }
 
@@ -141,6 +146,33 @@ fn agree_counts_the_records_or_shows_the_first_that_differs() {
 }
 
 #[test]
+fn a_strict_replica_is_not_for_the_baseline_and_not_for_merges() {
+    let edges = example("strict-edges").expect("it is there");
+    let read = Record { kind: 10, slot: 7, count: 1, ..Record::default() };
+    let asked = [&edges[256..512], &read.encode()[..]].concat();
+    for (words, trace) in [("baseline", &edges), ("merges", &asked)] {
+        let output = oracle(&[words], trace);
+        assert_eq!(output.status.code(), Some(2), "{words}");
+        let said = String::from_utf8_lossy(&output.stderr);
+        assert!(said.ends_with("knows the base kind only\n"), "{said}");
+        assert_eq!(said.lines().count(), 1);
+    }
+}
+
+/// A completion of a strict replica keeps its ballot.
+#[test]
+fn the_other_ballots_are_those_of_base_replicas() {
+    let (base, strict) = (worked_example(), example("strict-edges").expect("it is there"));
+    let trace = [&strict[256 * 5..], &base, &strict[256 * 6..]].concat();
+    let other = oracle(&["other-ballots", "3"], &trace).stdout;
+    let changed: Vec<usize> = (0..trace.len() / 256)
+        .filter(|place| trace[256 * place..][..256] != other[256 * place..][..256])
+        .collect();
+    let from = strict.len() / 256 - 5;
+    assert_eq!(changed, [from + 2, from + 3, from + 4]);
+}
+
+#[test]
 fn a_seed_fixes_the_other_ballots() {
     let trace = worked_example();
     let with = |seed| oracle(&["other-ballots", seed], &trace).stdout;
@@ -162,7 +194,7 @@ fn a_trace_that_is_not_there_is_an_error() {
 
 #[test]
 fn bad_usage_is_an_error() {
-    let bad: [&[&str]; 24] = [
+    let bad: [&[&str]; 28] = [
         &[],
         &["--old-rule"],
         &["departs"],
@@ -187,6 +219,10 @@ fn bad_usage_is_an_error() {
         &["gen", "one", "2", "--profile", "mix"],
         &["gen", "1", "-2", "--profile", "mix"],
         &["gen", "1", "2", "--profile", "all"],
+        &["gen", "1", "2", "--strict"],
+        &["gen", "1", "2", "--profile", "mix", "--base"],
+        &["gen", "1", "2", "--profile", "mix", "--strict", "--strict"],
+        &["model-agree", "trace"],
     ];
     for words in bad {
         let output = oracle(words, b"");

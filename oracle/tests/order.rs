@@ -31,7 +31,7 @@ fn a_new_replica_outside_the_numbers_is_10_and_keeps_the_old() {
     }
     member.refuses(10, new(3, 3, 0, 0));
     member.refuses(10, new(0, 3, (1 << 32) + 1, 0));
-    member.refuses(10, new(0, 3, 0, 4));
+    member.refuses(10, new(0, 3, 0, 8));
     member.does(new(8, 9, 1 << 32, 3));
     assert_eq!(member.scalars()[..6], [8, 9, 5, 1 << 32, 1, 1]);
 }

@@ -54,16 +54,20 @@ fn replay_and_digest_are_as_stored() {
 
 #[test]
 fn the_traces_made_by_hand_are_as_stored() {
-    for name in ["worked", "keys", "refusals", "late-0", "late-1", "late-2", "first-value"] {
+    let strict = "strict-edges";
+    for name in ["worked", "keys", "refusals", "late-0", "late-1", "late-2", "first-value", strict]
+    {
         let stored = fs::read(folder().join(name).with_extension("trace")).expect("a trace");
         assert!(example(name).expect("it is there") == stored, "{name}: the trace differs");
     }
 }
 
-/// Two are stored whole; the second by the new rule.
+/// Three are stored whole; the second by the new rule.
 #[test]
 fn the_told_text_is_as_stored() {
-    for name in if OLD_RULE { &["worked"][..] } else { &["worked", "first-value"] } {
+    let by_both = ["worked", "strict-edges"];
+    let by_the_new = (!OLD_RULE).then_some("first-value");
+    for name in by_both.into_iter().chain(by_the_new) {
         let trace = folder().join(name).with_extension("trace");
         let text = told_text(fs::File::open(&trace).expect("a trace"));
         assert_eq!(text, stored(&trace, "tell"));

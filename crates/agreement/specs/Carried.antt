@@ -7,7 +7,7 @@ use Prim.Native.Nat.{ℕ, _+_, _≤_, _<_}
 use native.Mathlib.Omega.{arith}
 use lib.Dec.{ltb, leb, eqb}
 use lib.ListN.{length}
-use Rattle.base.specs.Pick.{pick-both, pick-cases, and-left}
+use Rattle.base.specs.Pick.{pick-both, pick-cases, and-left, and-right}
 use Rattle.base.specs.Gather.{gather, all-gather}
 use Rattle.base.specs.Among.{All, all-append}
 use Rattle.batch.specs.declared.Batch.{Batch}
@@ -21,10 +21,10 @@ use Rattle.actions.specs.declared.Action.the-variants.{PrepareBal, AcceptData, 
 use Rattle.actions.specs.Actions.{Act, bare, saysActs}
 use Rattle.slots.specs.declared.Vote.{Vote}
 use Rattle.slots.specs.declared.Slot.{Slot}
-use Rattle.slots.specs.Slots.{preparing, committed, executed, nullSlot, newBook, preparedSlot, redoneSlot, acceptedSlot, acknowledgedSlot, committedSlot, countedSlot, enteredSlot, markedSlot, passedSlot, executedSlot, offeredSlot}
+use Rattle.slots.specs.Slots.{noVote, notedSlot, preparing, committed, executed, nullSlot, newBook, preparedSlot, redoneSlot, acceptedSlot, acknowledgedSlot, committedSlot, countedSlot, enteredSlot, markedSlot, passedSlot, executedSlot, offeredSlot}
 use Rattle.decide.specs.declared.Reply.{Reply}
-use Rattle.decide.specs.Scalars.{notifies, stepsDown}
-use Rattle.decide.specs.Decide.{sentVote, decideOffer}
+use Rattle.decide.specs.Scalars.{strict, notifies, stepsDown}
+use Rattle.decide.specs.Decide.{awaitsPrepare, sentVote, decideOffer}
 use Rattle.decide.specs.PrepareReply.{ownReply}
 use Rattle.window.specs.declared.Window.{Window}
 use Rattle.window.specs.Window.{slotAt, putSlot, filled, grown, sweep, firstOpen}
@@ -43,7 +43,7 @@ use Rattle.replica.specs.Step.{Call, callPrepare, callPrepareReply, callAccept,
 use Rattle.laws.specs.Leaves.{done}
 use Rattle.laws.specs.WaysMessages.{prepareWindow, prepareEnd, prepareStep-ways, acceptWindow, acceptStep-ways, acceptReplyStep-ways}
 use Rattle.laws.specs.WaysLeadership.{leadWindow, leadTrigger, leadEnd, leadFrom, timeoutStep-ways, markWindow, markFrom, markEnd, commitNoticeStep-ways}
-use Rattle.laws.specs.WaysReply.{adoptsVote, heardSlot, replyWindow, replySlot, heardWindow, triggerSlot, countedWindow, tabledSc, Answers, replyOn-ways, prepareReplyStep-ways, reply-place}
+use Rattle.laws.specs.WaysReply.{adoptsVote, heardSlot, grownWindow, replyWindow, replySlot, heardWindow, triggerSlot, countedWindow, tabledSc, Answers, replyOn-ways, prepareReplyStep-ways, reply-place}
 use Rattle.laws.specs.WaysDurability.{logged, loggedAt, Logs, Completes, completes-silent, completes-more, completes-commit, completes-report, moved-ways, passFrom, passed, loggedStep-ways}
 use Rattle.laws.specs.WaysAdded.{offerWindow, offerStep-ways, executedStep-ways, openReadStep-ways, readPlace, readAt, mergedRead, closed, readReplyStep-ways}
 use Rattle.agreement.specs.Frame.{named}
@@ -141,7 +141,7 @@ module _ (Q : Batch → Type 0) where
         let i : ℕ = place (r .sc) trigger in
         record {
           window =
-              sweep-in (preparedSlot ballot (prepareBook (r .sc) w i peer)) i (prepareEnd r trigger) w (λ x k. record { batch = k .batch; vote = k .vote })
+              sweep-in (preparedSlot (strict (r .sc)) ballot (prepareBook (r .sc) w i peer)) i (prepareEnd r trigger) w (λ x k. record { batch = k .batch; vote = k .vote })
               (grown-in (i + 1) (omega (arith, f .low, f .high)));
           acts =
               all-append ActIn (downActs (r .sc) ballot) _ (pick-both (All ActIn) (stepsDown (r .sc) ballot) (tt, tt) tt)
@@ -155,7 +155,7 @@ module _ (Q : Batch → Type 0) where
         let w : Window = acceptWindow r slot in
         let i : ℕ = place (r .sc) slot in
         record {
-          window = put-in w i (acceptedSlot peer ballot (clean b) (slotAt w i)) (record { batch = q refl; vote = q refl }) (grown-in (i + 1) (omega (arith, f .low, f .high)));
+          window = put-in w i (acceptedSlot (strict (r .sc)) peer ballot (clean b) (slotAt w i)) (record { batch = q refl; vote = q refl }) (grown-in (i + 1) (omega (arith, f .low, f .high)));
           acts = pick-both (λ (s : Says). All ActIn (saysActs s (clean b .keys))) (stepsDown (r .sc) ballot) (tt, (q refl, tt)) (q refl, tt);
         })
 
@@ -217,42 +217,44 @@ module _ (Q : Batch → Type 0) where
 
     -- ── a PrepareReply, also a leader's to itself ──
     module _ (peer : ℕ) (m : Reply) (f : Answers r m) where
-      appends-in : WindowIn (replyWindow r m)
-      appends-in =
-          filled-in (appendedAs r (place (r .sc) (m .trigger))) (r .window) (place (r .sc) (m .slot) + 1) (record { batch = empty; vote = empty })
-          (omega (arith, reply-place r m f)) h
-
-      slot-here : place (r .sc) (m .slot) < replyWindow r m .len
+      slot-here : place (r .sc) (m .slot) < replyWindow r peer m .len
       slot-here = omega (arith, filled-has (appendedAs r (place (r .sc) (m .trigger))) (r .window) (place (r .sc) (m .slot) + 1))
+
+      appends-in : WindowIn (replyWindow r peer m)
+      appends-in =
+          let w = filled-in (appendedAs r (place (r .sc) (m .trigger))) (r .window) (place (r .sc) (m .slot) + 1) (record { batch = empty; vote = empty })
+          (omega (arith, reply-place r m f)) h in
+          let k = slot-in (grownWindow r m) (place (r .sc) (m .slot)) slot-here w in
+          put-in (grownWindow r m) (place (r .sc) (m .slot)) (notedSlot (strict (r .sc)) peer (slotAt (grownWindow r m) (place (r .sc) (m .slot)))) (record { batch = k .batch; vote = k .vote }) w
 
       append-acts : All ActIn (appendActs r (place (r .sc) (m .slot)))
       append-acts =
           all-gather (λ k. promise (number (r .sc) k) (r .sc .«bal_prep_sent») ∷ []) ActIn (r .window .len) (place (r .sc) (m .slot) + 1) (λ _ _ _. (tt, tt))
 
       module _ (q : m .voted ≡ true → Q (m .vote .batch)) where
-        heard-in : WindowIn (heardWindow r m)
+        heard-in : WindowIn (heardWindow r peer m)
         heard-in =
-            let k = slot-in (replyWindow r m) (place (r .sc) (m .slot)) slot-here appends-in in
-            put-in (replyWindow r m) (place (r .sc) (m .slot)) (heardSlot (replySlot r m) m)
-            (pick-cases SlotIn (adoptsVote (replySlot r m) m) (λ t. record { batch = q (and-left (m .voted) _ t); vote = k .vote }) (λ _. k)) appends-in
+            let k = slot-in (replyWindow r peer m) (place (r .sc) (m .slot)) slot-here appends-in in
+            put-in (replyWindow r peer m) (place (r .sc) (m .slot)) (heardSlot (replySlot r peer m) m)
+            (pick-cases SlotIn (adoptsVote (replySlot r peer m) m) (λ t. record { batch = q (and-left (m .voted) _ (and-right (awaitsPrepare (replySlot r peer m) (m .ballot)) _ t)); vote = k .vote }) (λ _. k)) appends-in
 
-        trigger-here : place (r .sc) (m .trigger) < heardWindow r m .len
+        trigger-here : place (r .sc) (m .trigger) < heardWindow r peer m .len
         trigger-here = omega (arith, f .low, f .logged, filled-low (appendedAs r (place (r .sc) (m .trigger))) (r .window) (place (r .sc) (m .slot) + 1))
 
         counted-in : WindowIn (countedWindow r peer m)
         counted-in =
-            let k = slot-in (heardWindow r m) (place (r .sc) (m .trigger)) trigger-here heard-in in
-            put-in (heardWindow r m) (place (r .sc) (m .trigger)) (countedSlot peer (triggerSlot r m)) (record { batch = k .batch; vote = k .vote }) heard-in
+            let k = slot-in (heardWindow r peer m) (place (r .sc) (m .trigger)) trigger-here heard-in in
+            put-in (heardWindow r peer m) (place (r .sc) (m .trigger)) (countedSlot peer (triggerSlot r peer m)) (record { batch = k .batch; vote = k .vote }) heard-in
 
-        entered-in : WindowIn (sweep (λ i s. enteredSlot s) (place (r .sc) (m .trigger)) (replyWindow r m .len) (countedWindow r peer m))
+        entered-in : WindowIn (sweep (λ i s. enteredSlot (strict (tabledSc r peer m)) (m .ballot) s) (place (r .sc) (m .trigger)) (replyWindow r peer m .len) (countedWindow r peer m))
         entered-in =
-            sweep-in enteredSlot (place (r .sc) (m .trigger)) (replyWindow r m .len) (countedWindow r peer m)
-            (λ x k. pick-both SlotIn (eqb (x .status) preparing) (record { batch = k .batch; vote = k .vote }) k) counted-in
+            sweep-in (enteredSlot (strict (tabledSc r peer m)) (m .ballot)) (place (r .sc) (m .trigger)) (replyWindow r peer m .len) (countedWindow r peer m)
+            (λ x k. pick-both SlotIn (eqb (x .status) preparing) (record { batch = k .batch; vote = pick-both (λ (v : Vote). Q (v .batch)) (strict (tabledSc r peer m)) (k .batch) (k .vote) }) k) counted-in
 
         enter-acts : All ActIn
-            (gather (λ k. enterActs (number (tabledSc r peer m) k) (m .ballot) (slotAt (countedWindow r peer m) k)) (place (r .sc) (m .trigger)) (replyWindow r m .len))
+            (gather (λ k. enterActs (number (tabledSc r peer m) k) (m .ballot) (slotAt (countedWindow r peer m) k)) (place (r .sc) (m .trigger)) (replyWindow r peer m .len))
         enter-acts =
-            all-gather (λ k. enterActs (number (tabledSc r peer m) k) (m .ballot) (slotAt (countedWindow r peer m) k)) ActIn (place (r .sc) (m .trigger)) (replyWindow r m .len)
+            all-gather (λ k. enterActs (number (tabledSc r peer m) k) (m .ballot) (slotAt (countedWindow r peer m) k)) ActIn (place (r .sc) (m .trigger)) (replyWindow r peer m .len)
             (λ k _ l.
             let z = slot-in (countedWindow r peer m) k l counted-in in
             pick-both (All ActIn) (eqb (slotAt (countedWindow r peer m) k .status) preparing) (z .batch, (z .batch, tt)) tt)
@@ -280,7 +282,8 @@ module _ (Q : Batch → Type 0) where
         (λ f q.
         record {
           window =
-              put-in (offerWindow r) (r .window .len) (offeredSlot (r .sc .«bal_prepared») (clean b)) (record { batch = q refl; vote = empty })
+              put-in (offerWindow r) (r .window .len) (offeredSlot (strict (r .sc)) (r .sc .«bal_prepared») (clean b))
+              (record { batch = q refl; vote = pick-both (λ (v : Vote). Q (v .batch)) (strict (r .sc)) {a = record { ballot = r .sc .«bal_prepared»; batch = clean b }} {b = noVote} (q refl) empty })
               (grown-in (r .window .len + 1) (omega (arith, f .room)));
           acts = (q refl, (q refl, tt));
         })
@@ -324,11 +327,11 @@ module _ (Q : Batch → Type 0) where
               (pick-both (All ActIn) (eqb (passFrom r) (passStop r)) tt (pick-both (All ActIn) (notifies (r .sc) (number (r .sc) (passStop r)) (logEnd r)) (tt, tt) tt));
         }
 
-    completed-in : (i slot : ℕ) → i < r .window .len → (after : Replica) (acts : List Act) → Completes r i slot after acts → OutcomeIn (done after acts)
-    completed-in i slot l _ _ completes-silent = record { window = h; acts = tt }
-    completed-in i slot l _ _ (completes-more b a q) = record { window = acked-in i (r .sc .id) l; acts = tt }
-    completed-in i slot l _ _ (completes-commit b a q) = record { window = committed-in i (r .sc .id) l; acts = (tt, tt) }
-    completed-in i slot l _ _ (completes-report n p) = record { window = h; acts = (tt, tt) }
+    completed-in : (i slot ballot : ℕ) → i < r .window .len → (after : Replica) (acts : List Act) → Completes r i slot ballot after acts → OutcomeIn (done after acts)
+    completed-in i slot ballot l _ _ completes-silent = record { window = h; acts = tt }
+    completed-in i slot ballot l _ _ (completes-more z b a q) = record { window = acked-in i (r .sc .id) l; acts = tt }
+    completed-in i slot ballot l _ _ (completes-commit z b a q) = record { window = committed-in i (r .sc .id) l; acts = (tt, tt) }
+    completed-in i slot ballot l _ _ (completes-report z n p) = record { window = h; acts = (tt, tt) }
 
   moved-in : (r : Replica) (slot : ℕ) (acts : List Act) → OutcomeIn (done r acts) → OutcomeIn (done (movedAccept r slot) acts)
   moved-in r slot acts k = moved-ways (λ (x : Replica). OutcomeIn (done x acts)) r slot k (λ bar. record { window = k .window; acts = k .acts })
@@ -358,9 +361,9 @@ module _ (Q : Batch → Type 0) where
         let own : Outcome = replyOn r′ (r′ .sc .id) (ownReply (r′ .sc) (loggedAt r d) (d .slot)) in
         pick-both OutcomeIn (eqb (own .answer) 0) (reply-in empty r′ (sized-in d f) (r′ .sc .id) (ownReply (r′ .sc) (loggedAt r d) (d .slot)) (λ _ _. told-in d f))
         (kept-in empty r h (own .answer)))
-        (λ f e n p. record { window = sized-in d f; acts = (told-in d f, tt) })
+        (λ f e z n p. record { window = sized-in d f; acts = (told-in d f, tt) })
         (λ f e after acts k.
-        moved-in after (d .slot) acts (completed-in empty r′ (sized-in d f) (place (r .sc) (d .slot)) (d .slot) (sized-here d f) after acts k))
+        moved-in after (d .slot) acts (completed-in empty r′ (sized-in d f) (place (r .sc) (d .slot)) (d .slot) (d .ballot) (sized-here d f) after acts k))
         (λ f e at. passed-in empty r′ (sized-in d f))
 
     -- ── every call: a call that does not answer 0 may bring anything ──

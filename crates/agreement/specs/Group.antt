@@ -239,9 +239,9 @@ unfolding newReplica
 made-start m size start options =
     pick-cases (λ (z : Made). z .answer ≡ 0 → GoodReplica (z .replica) × Local m (viewOf (z .replica)) []) (mayBe m size start options)
     (λ e _.
-    let a : (ltb m size && (leb start 4294967296 && leb options 3)) ≡ true = and-right (groupSize size) (ltb m size && (leb start 4294967296 && leb options 3)) e in
-    let b : groupSize size ≡ true = and-left (groupSize size) (ltb m size && (leb start 4294967296 && leb options 3)) e in
-    let x : m < size = ltb-true m size (and-left (ltb m size) (leb start 4294967296 && leb options 3) a) in
+    let a : (ltb m size && (leb start 4294967296 && leb options 7)) ≡ true = and-right (groupSize size) (ltb m size && (leb start 4294967296 && leb options 7)) e in
+    let b : groupSize size ≡ true = and-left (groupSize size) (ltb m size && (leb start 4294967296 && leb options 7)) e in
+    let x : m < size = ltb-true m size (and-left (ltb m size) (leb start 4294967296 && leb options 7) a) in
     let y : size ≤ 9 = leb-true size 9 (and-left (leb size 9) (eqb (size % 2) 1) b) in
     (fresh-good m size start options (omega arith), fresh-local m size start options))
     (λ _ z. absurd (omega arith))

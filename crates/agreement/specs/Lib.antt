@@ -22,3 +22,5 @@ pub mod Truth
 pub mod Unsafe
 pub mod Carried
 pub mod Proposed
+pub mod StrictTells
+pub mod StrictRuns

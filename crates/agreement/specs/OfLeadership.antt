@@ -47,7 +47,7 @@ module _ (r : Replica) (c : Call) (w : Window) (trigger endprep : ℕ) (g : Good
   raised = ballotAbove (r .sc .«bal_max_seen») (r .sc .id)
 
   abbrev pub upSc : Scalars
-  upSc = steppedUp (r .sc) raised
+  upSc = steppedUp (r .sc) trigger raised
 
   abbrev pub from : ℕ
   from = place (r .sc) (r .sc .«exec_bar»)

@@ -1,14 +1,14 @@
 -- Prepare, Accept, AcceptReply keep to the frame.
 use mathlib.Core.Path.{_≡_, refl, sym, _∙_, ap, subst}
-use mathlib.Core.Bool.{Bool, true, false}
+use mathlib.Core.Bool.{Bool, true, false, _&&_}
 use mathlib.Core.List.{List, [], _∷_, _++_, List·Memᴰ·head, Memᴰ·append-right}
 use mathlib.Core.Logic.{inr}
 use Prim.Native.Nat.{ℕ, _+_, _%_, _≤_, _<_}
 use native.Mathlib.Omega.{arith}
-use lib.Dec.{ltb}
+use lib.Dec.{ltb, leb}
 use lib.ListN.{getD}
-use borrow.Author.Tests.{eqb-true}
-use Rattle.base.specs.Pick.{pick, pick-both, pick-cases, tests}
+use borrow.Author.Tests.{leb-true, eqb-true}
+use Rattle.base.specs.Pick.{pick, pick-both, pick-cases, and-right, tests}
 use Rattle.base.specs.Gather.{gather, all-gather}
 use Rattle.base.specs.Among.{All, all-append}
 use Rattle.members.specs.Ballots.{owns}
@@ -19,9 +19,10 @@ use Rattle.actions.specs.declared.Says.{Says}
 use Rattle.actions.specs.declared.Action.the-variants.{StatusDown}
 use Rattle.actions.specs.Actions.{Act, bare, saysActs}
 use Rattle.slots.specs.declared.Slot.{Slot}
-use Rattle.slots.specs.Slots.{preparedSlot, acceptedSlot, acknowledgedSlot, committedSlot, nullSlot}
+use Rattle.slots.specs.Slots.{putBack, preparedSlot, acceptedSlot, acknowledgedSlot, committedSlot, nullSlot}
+use Rattle.slots.specs.Statuses.{put-back-open}
 use Rattle.decide.specs.declared.Scalars.{Scalars}
-use Rattle.decide.specs.Scalars.{leads, followed, stepsDown}
+use Rattle.decide.specs.Scalars.{leads, strict, followed, stepsDown}
 use Rattle.window.specs.declared.Window.{Window}
 use Rattle.window.specs.Window.{slotAt, putSlot, sweep}
 use Rattle.window.specs.Acts.{promise}
@@ -93,6 +94,15 @@ module _ (sc : Scalars) (w : Window) (g : Good sc w) (peer ballot : ℕ) (o : Ow
   pub follow-slot : (x : Slot) → GoodSlot sc x → GoodSlot (followed sc peer ballot) x
   follow-slot x k = record { under = omega (arith, follow-seen, k .under); busy = λ z. absurd (follow-not z); tidy = k .tidy; tidyVote = k .tidyVote }
 
+-- ── the status that Prepare and Accept give, in both kinds ──
+never-two : (kind : Bool) (x : Slot) → putBack kind 1 x ≡ 2 → ⊥
+never-two kind x =
+    pick-cases (λ (n : ℕ). n ≡ 2 → ⊥) (kind && leb 3 (x .status)) (λ t z. omega (arith, leb-true 3 (x .status) (and-right kind (leb 3 (x .status)) t))) (λ _ z. omega arith)
+
+at-least-two : (kind : Bool) (x : Slot) → 2 ≤ putBack kind 2 x
+at-least-two kind x =
+    pick-cases (λ (n : ℕ). 2 ≤ n) (kind && leb 3 (x .status)) (λ t. omega (arith, leb-true 3 (x .status) (and-right kind (leb 3 (x .status)) t))) (λ _. omega arith)
+
 -- ── Prepare ──
 module _ (r : Replica) (c : Call) (w : Window) (from peer ballot : ℕ) (g : GoodReplica r) (q : Grew (r .window) w) (o : Owns peer ballot) (d : peer ≡ r .sc .id → ⊥)
     (l : r .sc .«bal_max_seen» ≤ ballot) (here : from < w .len) where
@@ -103,14 +113,14 @@ module _ (r : Replica) (c : Call) (w : Window) (from peer ballot : ℕ) (g : Goo
   sc′ = followed (r .sc) peer ballot
 
   abbrev pub w′ : Window
-  w′ = sweep (λ i s. preparedSlot ballot (prepareBook (r .sc) w from peer) s) from (prepareTop w from + 1) w
+  w′ = sweep (λ i s. preparedSlot (strict (r .sc)) ballot (prepareBook (r .sc) w from peer) s) from (prepareTop w from + 1) w
 
   abbrev pub acts : List Act
   acts = downActs (r .sc) ballot ++ gather (λ i. promise (number (r .sc) i) ballot ∷ []) from (prepareTop w from + 1)
 
   prepared-each : Each (r .sc) w c 0 sc′ w′ acts
   prepared-each i =
-      sweep-cases (λ i s. preparedSlot ballot (prepareBook (r .sc) w from peer) s) from (prepareTop w from + 1) w
+      sweep-cases (λ i s. preparedSlot (strict (r .sc)) ballot (prepareBook (r .sc) w from peer) s) from (prepareTop w from + 1) w
       (Turned (view (r .sc) w) sc′ (view sc′ w′) acts (r .sc .start + i) (atPlace w i)) i (omega (arith, q .wide, q .short))
       (λ _ _ _.
       record {
@@ -121,8 +131,8 @@ module _ (r : Replica) (c : Call) (w : Window) (from peer ballot : ℕ) (g : Goo
           tidy = gw .each i .tidy;
           tidyVote = gw .each i .tidyVote;
         };
-        step = cleared (λ z. omega arith) (inr (follow-not-own (r .sc) w gw peer ballot o d l));
-        rise = λ _ z. absurd (omega arith);
+        step = cleared (never-two (strict (r .sc)) (atPlace w i)) (inr (follow-not-own (r .sc) w gw peer ballot o d l));
+        rise = λ a z. absurd (omega (arith, put-back-open (atPlace w i) (strict (r .sc)) 1 a));
       })
       (λ _. turned-self (atPlace w i) (follow-slot (r .sc) w gw peer ballot o d l (atPlace w i) (gw .each i)))
 
@@ -130,7 +140,7 @@ module _ (r : Replica) (c : Call) (w : Window) (from peer ballot : ℕ) (g : Goo
   prepared-ok =
       grew-ok (r .sc) (r .window) w c 0 sc′ w′ acts q
       (assemble (r .sc) w c 0 sc′ w′ acts gw (follow-heads (r .sc) w gw peer ballot o d l)
-      (sweep-long (λ i s. preparedSlot ballot (prepareBook (r .sc) w from peer) s) from (prepareTop w from + 1) w ∙ q .wide) (q .short) prepared-each
+      (sweep-long (λ i s. preparedSlot (strict (r .sc)) ballot (prepareBook (r .sc) w from peer) s) from (prepareTop w from + 1) w ∙ q .wide) (q .short) prepared-each
       (all-append (ActOk (view (r .sc) w) c (view sc′ w′) acts) (downActs (r .sc) ballot) _
       (pick-both (All (ActOk (view (r .sc) w) c (view sc′ w′) acts)) (stepsDown (r .sc) ballot) ((tt, tt), tt) tt)
       (all-gather (λ i. promise (number (r .sc) i) ballot ∷ []) (ActOk (view (r .sc) w) c (view sc′ w′) acts) from (prepareTop w from + 1)
@@ -150,7 +160,7 @@ prepareStep-ok r c g room peer trigger ballot =
 module _ (sc : Scalars) (w : Window) (c : Call) (g : Good sc w) (peer slot ballot i : ℕ) (m : Batch) (is : c ≡ callAccept peer slot ballot m) (o : Owns peer ballot)
     (d : peer ≡ sc .id → ⊥) (l : sc .«bal_max_seen» ≤ ballot) (at : slot ≡ sc .start + i) (h : i < w .len) where
   abbrev pub accepted : Slot
-  accepted = acceptedSlot peer ballot (clean m) (slotAt w i)
+  accepted = acceptedSlot (strict sc) peer ballot (clean m) (slotAt w i)
 
   accepted-each : (down : List Act) → Each sc w c 0 (followed sc peer ballot) (putSlot w i accepted) (down ++ (acceptEntry slot ballot (clean m) ∷ []))
   accepted-each down k =
@@ -166,8 +176,8 @@ module _ (sc : Scalars) (w : Window) (c : Call) (g : Good sc w) (peer slot ballo
           tidy = clean-clean m;
           tidyVote = clean-clean m;
         };
-        step = wrote (omega arith) (Memᴰ·append-right down (List·Memᴰ·head (ap (λ (z : ℕ). acceptEntry z ballot (clean m)) (omega arith))));
-        rise = λ _ z. absurd (omega arith);
+        step = wrote (at-least-two (strict sc) (slotAt w i)) (Memᴰ·append-right down (List·Memᴰ·head (ap (λ (z : ℕ). acceptEntry z ballot (clean m)) (omega arith))));
+        rise = λ a z. absurd (omega (arith, put-back-open (slotAt w i) (strict sc) 2 (subst (λ (x : Slot). x .status < 3) (ap (atPlace w) e ∙ at-here w i h) a)));
       })
       (λ _. turned-self (atPlace w k) (follow-slot sc w g peer ballot o d l (atPlace w k) (g .each k)))
 
@@ -176,7 +186,7 @@ module _ (sc : Scalars) (w : Window) (c : Call) (g : Good sc w) (peer slot ballo
       at-number (λ (x : Cell). Holds x ballot (clean m)) (followed sc peer ballot .start) (putSlot w i accepted) slot i
       (omega (arith, followed-fixed sc peer ballot .start))
       (subst (λ (y : Slot). Holds (cell y) ballot (clean m)) (sym (put-at w i accepted h (omega (arith, g .wide, g .short))))
-      (record { on = omega arith; at = refl; val = refl }))
+      (record { on = at-least-two (strict sc) (slotAt w i); at = refl; val = refl }))
 
   accepted-ok : (down : List Act) → ((v : View) (c : Call) (v′ : View) (all : List Act) → All (ActOk v c v′ all) down)
       → StepOk (view sc w) c 0 (followed sc peer ballot) (putSlot w i accepted) (down ++ (acceptEntry slot ballot (clean m) ∷ []))

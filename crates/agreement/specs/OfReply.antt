@@ -1,24 +1,26 @@
 -- PrepareReply, also a leader's to itself, keeps to the frame: slots are appended, a vote is taken, a member is counted, and at quorum every
 -- Preparing slot from the trigger on enters Accept.
 use mathlib.Core.Path.{_≡_, refl, sym, _∙_, ap, subst}
-use mathlib.Core.Bool.{true}
+use mathlib.Core.Bool.{Bool, true}
 use mathlib.Core.List.{List, [], _∷_, _++_, List·Memᴰ·head, Memᴰ·append-right}
 use Prim.Native.Nat.{ℕ, _+_, _≤_, _<_}
 use native.Mathlib.Omega.{arith}
 use lib.Dec.{eqb}
 use lib.ListN.{length}
 use borrow.Author.Tests.{eqb-true, eq-eqb}
-use Rattle.base.specs.Pick.{pick-both, pick-cases}
+use Rattle.base.specs.Pick.{pick-both, pick-cases, and-left}
 use Rattle.base.specs.Gather.{gather, all-gather, in-gather}
 use Rattle.base.specs.Among.{_∈_, All, all-append}
 use Rattle.batch.specs.Batches.{makeBatch}
 use Rattle.actions.specs.Actions.{Act}
+use Rattle.slots.specs.declared.Vote.{Vote}
 use Rattle.slots.specs.declared.Slot.{Slot}
-use Rattle.slots.specs.Slots.{preparing, countedSlot, enteredSlot}
+use Rattle.slots.specs.Slots.{preparing, notedSlot, countedSlot, enteredSlot}
 use Rattle.decide.specs.declared.Scalars.{Scalars}
 use Rattle.decide.specs.declared.PeerBars.{PeerBars}
 use Rattle.decide.specs.declared.Reply.{Reply}
-use Rattle.decide.specs.Scalars.{leads, withPeerMax, withPrepared}
+use Rattle.decide.specs.Decide.{awaitsPrepare}
+use Rattle.decide.specs.Scalars.{leads, strict, withPeerMax, withPrepared}
 use Rattle.decide.specs.Bars.{withFallen}
 use Rattle.window.specs.declared.Window.{Window}
 use Rattle.window.specs.Window.{slotAt, putSlot, sweep}
@@ -30,7 +32,7 @@ use Rattle.replica.specs.Record.{place, number}
 use Rattle.replica.specs.Messages.{appended, appendActs, replyOn, cleanReply, prepareReplyStep, appendedAs}
 use Rattle.replica.specs.Step.{Call}
 use Rattle.laws.specs.OfScalars.{fallen-ways}
-use Rattle.laws.specs.WaysReply.{adoptsVote, heardSlot, replyWindow, replySlot, heardWindow, triggerSlot, countedWindow, tabledSc, Answers, Heard, replyOn-ways, prepareReplyStep-ways, reply-place}
+use Rattle.laws.specs.WaysReply.{adoptsVote, heardSlot, grownWindow, replyWindow, replySlot, heardWindow, triggerSlot, countedWindow, tabledSc, Answers, replyOn-ways, prepareReplyStep-ways, reply-place}
 use Rattle.laws.specs.Appended.{appended-long, appended-low, appended-has, appended-most, appended-cases}
 use Rattle.agreement.specs.Theorem.{acceptEntry}
 use Rattle.agreement.specs.Frame.{Cell, cell, View, view, Owns, Clean, Holds, led, ActOk, low, wrote}
@@ -119,9 +121,9 @@ module _ (sc : Scalars) (w : Window) (c : Call) (g : Good sc w) (h : leads sc �
       (said (view sc′ w′) acts (q .seen)) (λ z. absurd (z refl))
 
   -- every Preparing slot from place j on enters Accept
-  module _ (sc′ : Scalars) (w′ : Window) (j ballot : ℕ) (q : Same sc sc′) (p : Primed sc w w′) (e : ballot ≡ sc .«bal_max_seen») where
+  module _ (sc′ : Scalars) (kind : Bool) (w′ : Window) (j ballot : ℕ) (q : Same sc sc′) (p : Primed sc w w′) (e : ballot ≡ sc .«bal_max_seen») where
     abbrev pub entered : Window
-    entered = sweep (λ i s. enteredSlot s) j (w′ .len) w′
+    entered = sweep (λ i s. enteredSlot kind ballot s) j (w′ .len) w′
 
     abbrev pub enters : ℕ → List Act
     enters i = enterActs (number sc i) ballot (slotAt w′ i)
@@ -143,7 +145,7 @@ module _ (sc : Scalars) (w : Window) (c : Call) (g : Good sc w) (h : leads sc �
     at-top : (i : ℕ) → atPlace w′ i .status ≡ 1 → atPlace w′ i .ballot ≡ sc .«bal_max_seen»
     at-top i s = p .good .each i .busy h (omega (arith, s)) (omega (arith, s))
 
-    entered-turned : (i : ℕ) → j ≤ i → i < w′ .len → Turned (view sc w) sc′ (view sc′ entered) all (sc .start + i) (atPlace w i) (enteredSlot (atPlace w′ i))
+    entered-turned : (i : ℕ) → j ≤ i → i < w′ .len → Turned (view sc w) sc′ (view sc′ entered) all (sc .start + i) (atPlace w i) (enteredSlot kind ballot (atPlace w′ i))
     entered-turned i a b =
         pick-cases (Turned (view sc w) sc′ (view sc′ entered) all (sc .start + i) (atPlace w i)) (eqb (atPlace w′ i .status) preparing)
         (λ s.
@@ -154,7 +156,7 @@ module _ (sc : Scalars) (w : Window) (c : Call) (g : Good sc w) (h : leads sc �
             busy = λ _ _ _. at-top i z ∙ sym
                 (q .seen);
             tidy = p .good .each i .tidy;
-            tidyVote = p .good .each i .tidyVote;
+            tidyVote = pick-both (λ (v : Vote). Clean (v .batch)) kind (p .good .each i .tidy) (p .good .each i .tidyVote);
           };
           step = wrote (omega arith) (subst (λ (n : ℕ). acceptEntry (sc .start + i) n (atPlace w′ i .batch) ∈ all) (e ∙ sym (at-top i z)) (entry-in i a b z));
           rise = λ _ y. absurd (omega arith);
@@ -163,7 +165,7 @@ module _ (sc : Scalars) (w : Window) (c : Call) (g : Good sc w) (h : leads sc �
 
     entered-each : Each sc w c 0 sc′ entered all
     entered-each i =
-        sweep-cases (λ i s. enteredSlot s) j (w′ .len) w′ (Turned (view sc w) sc′ (view sc′ entered) all (sc .start + i) (atPlace w i)) i fits
+        sweep-cases (λ i s. enteredSlot kind ballot s) j (w′ .len) w′ (Turned (view sc w) sc′ (view sc′ entered) all (sc .start + i) (atPlace w i)) i fits
         (λ a b _. entered-turned i a b)
         (λ _. turned-calm (atPlace w i) (atPlace w′ i) (good-same q (p .good .each i)) (p .calm i))
 
@@ -173,7 +175,7 @@ module _ (sc : Scalars) (w : Window) (c : Call) (g : Good sc w) (h : leads sc �
     entered-held : (i : ℕ) → j ≤ i → i < w′ .len → atPlace w′ i .status ≡ 1 → Holds (view sc′ entered .slot (sc .start + i)) ballot (atPlace w′ i .batch)
     entered-held i a b s =
         at-number (λ (x : Cell). Holds x ballot (atPlace w′ i .batch)) (sc′ .start) entered (sc .start + i) i (ap (λ (n : ℕ). n + i) (sym (q .start)))
-        (subst (λ (x : Slot). Holds (cell x) ballot (atPlace w′ i .batch)) (sym (sweep-at (λ i s. enteredSlot s) j (w′ .len) w′ i fits a b b))
+        (subst (λ (x : Slot). Holds (cell x) ballot (atPlace w′ i .batch)) (sym (sweep-at (λ i s. enteredSlot kind ballot s) j (w′ .len) w′ i fits a b b))
         (rw (eq-eqb (atPlace w′ i .status) 1 s) (record { on = omega arith; at = at-top i s ∙ sym e; val = refl })))
 
     was-below : (i : ℕ) → atPlace w′ i .status ≡ 1 → view sc w .slot (sc .start + i) .status < 2
@@ -193,7 +195,7 @@ module _ (sc : Scalars) (w : Window) (c : Call) (g : Good sc w) (h : leads sc �
     entered-ok : StepOk (view sc w) c 0 sc′ entered all
     entered-ok =
         assemble sc w c 0 sc′ entered all g (heads-same g q)
-        (sweep-long (λ i s. enteredSlot s) j (w′ .len) w′ ∙ p .good .wide) (p .good .short) entered-each
+        (sweep-long (λ i s. enteredSlot kind ballot s) j (w′ .len) w′ ∙ p .good .wide) (p .good .short) entered-each
         (all-append (ActOk (view sc w) c (view sc′ entered) all) acts (gather enters j (w′ .len)) (said (view sc′ entered) all (q .seen))
         (all-gather enters (ActOk (view sc w) c (view sc′ entered) all) j (w′ .len) entered-said))
         (λ z. absurd (z refl))
@@ -212,37 +214,41 @@ good-all {sc} {sc′} {w} q g =
     }
 
 -- the reply's slot with its vote heard
-heard-primed : (r : Replica) (peer : ℕ) (m : Reply) → Clean (m .vote .batch) → Heard r peer m → Primed (r .sc) (r .window) (replyWindow r m) → Primed (r .sc) (r .window) (heardWindow r m)
-heard-primed r peer m t h p =
+heard-primed : (r : Replica) (peer : ℕ) (m : Reply) → Clean (m .vote .batch) → Primed (r .sc) (r .window) (replyWindow r peer m) → Primed (r .sc) (r .window) (heardWindow r peer m)
+heard-primed r peer m t p =
     let i : ℕ = place (r .sc) (m .slot) in
     let l = appended-has r i (place (r .sc) (m .trigger)) in
-    let k : GoodSlot (r .sc) (replySlot r m) = subst (GoodSlot (r .sc)) (at-here (replyWindow r m) i l) (p .good .each i) in
-    let z = h .status in
-    put-primed p i (heardSlot (replySlot r m) m) l
-    (pick-both (GoodSlot (r .sc)) (adoptsVote (replySlot r m) m) (record { under = k .under; busy = k .busy; tidy = t; tidyVote = k .tidyVote }) k)
-    (pick-both (Calm (replySlot r m)) (adoptsVote (replySlot r m) m) (below (omega arith) (omega arith)) (still (like-self (replySlot r m))))
+    let k : GoodSlot (r .sc) (replySlot r peer m) = subst (GoodSlot (r .sc)) (at-here (replyWindow r peer m) i l) (p .good .each i) in
+    put-primed p i (heardSlot (replySlot r peer m) m) l
+    (pick-both (GoodSlot (r .sc)) (adoptsVote (replySlot r peer m) m) (record { under = k .under; busy = k .busy; tidy = t; tidyVote = k .tidyVote }) k)
+    (pick-cases (Calm (replySlot r peer m)) (adoptsVote (replySlot r peer m) m)
+    (λ a.
+    let z : replySlot r peer m .status ≡ 1 = eqb-true (replySlot r peer m .status) 1
+    (and-left (eqb (replySlot r peer m .status) 1) _ (and-left (awaitsPrepare (replySlot r peer m) (m .ballot)) _ a)) in
+    below (omega arith) (omega arith))
+    (λ _. still (like-self (replySlot r peer m))))
 
 -- and the member counted at its trigger
-counted-primed : (r : Replica) (peer : ℕ) (m : Reply) → Answers r m → Primed (r .sc) (r .window) (heardWindow r m) → Primed (r .sc) (r .window) (countedWindow r peer m)
+counted-primed : (r : Replica) (peer : ℕ) (m : Reply) → Answers r m → Primed (r .sc) (r .window) (heardWindow r peer m) → Primed (r .sc) (r .window) (countedWindow r peer m)
 counted-primed r peer m f p =
     let i : ℕ = place (r .sc) (m .slot) in
     let j : ℕ = place (r .sc) (m .trigger) in
-    let l : j < heardWindow r m .len = omega (arith, f .low, f .logged, appended-low r i j) in
-    let k : Like (triggerSlot r m) (countedSlot peer (triggerSlot r m)) = record { status = refl; ballot = refl; batch = refl; vote = refl } in
-    put-primed p j (countedSlot peer (triggerSlot r m)) l (good-like (subst (GoodSlot (r .sc)) (at-here (heardWindow r m) j l) (p .good .each j)) k) (still k)
+    let l : j < heardWindow r peer m .len = omega (arith, f .low, f .logged, appended-low r i j) in
+    let k : Like (triggerSlot r peer m) (countedSlot peer (triggerSlot r peer m)) = record { status = refl; ballot = refl; batch = refl; vote = refl } in
+    put-primed p j (countedSlot peer (triggerSlot r peer m)) l (good-like (subst (GoodSlot (r .sc)) (at-here (heardWindow r peer m) j l) (p .good .each j)) k) (still k)
 
 pub replyOn-ok : (r : Replica) (c : Call) → GoodReplica r → (peer : ℕ) (m : Reply) → Clean (m .vote .batch) → Ok r c (replyOn r peer m)
 replyOn-ok r c g peer m t =
     replyOn-ways (Ok r c) r peer m (λ n _ _. kept-ok r c g n)
-    (λ f a. primed f (replyWindow r m) (wide f))
-    (λ f h e. primed f (heardWindow r m) (heard-primed r peer m t h (wide f)))
-    (λ f h e a. primed f (countedWindow r peer m) (counted-primed r peer m f (heard-primed r peer m t h (wide f))))
+    (λ f a. primed f (replyWindow r peer m) (wide f))
+    (λ f h e. primed f (heardWindow r peer m) (heard-primed r peer m t (wide f)))
+    (λ f h e a. primed f (countedWindow r peer m) (counted-primed r peer m f (heard-primed r peer m t (wide f))))
     (λ f h e a b.
     fallen-ways
-    (λ (x : Scalars). StepOk (view (r .sc) (r .window)) c 0 (withPrepared x (m .ballot)) (sweep (λ i s. enteredSlot s) j (replyWindow r m .len) (countedWindow r peer m))
-    (appendActs r i ++ gather (λ k. enterActs (number x k) (m .ballot) (slotAt (countedWindow r peer m) k)) j (replyWindow r m .len)))
-    (r .sc) (r .bars) peer (m .bar) (enter f h (withPrepared (r .sc) (m .ballot)) (record { id = refl; start = refl; leader = refl; sent = refl; seen = refl }))
-    (λ max. enter f h (withPrepared (withPeerMax (r .sc) max) (m .ballot)) (record { id = refl; start = refl; leader = refl; sent = refl; seen = refl })))
+    (λ (x : Scalars). StepOk (view (r .sc) (r .window)) c 0 (withPrepared x (m .ballot)) (sweep (λ i s. enteredSlot (strict x) (m .ballot) s) j (replyWindow r peer m .len) (countedWindow r peer m))
+    (appendActs r i ++ gather (λ k. enterActs (number x k) (m .ballot) (slotAt (countedWindow r peer m) k)) j (replyWindow r peer m .len)))
+    (r .sc) (r .bars) peer (m .bar) (enter f (withPrepared (r .sc) (m .ballot)) (record { id = refl; start = refl; leader = refl; sent = refl; seen = refl }))
+    (λ max. enter f (withPrepared (withPeerMax (r .sc) max) (m .ballot)) (record { id = refl; start = refl; leader = refl; sent = refl; seen = refl })))
   where
     i : ℕ
     i = place (r .sc) (m .slot)
@@ -250,8 +256,13 @@ replyOn-ok r c g peer m t =
     j : ℕ
     j = place (r .sc) (m .trigger)
 
-    wide : Answers r m → Primed (r .sc) (r .window) (replyWindow r m)
-    wide f = appended-primed r i j g (f .leading) (reply-place r m f)
+    wide : Answers r m → Primed (r .sc) (r .window) (replyWindow r peer m)
+    wide f =
+        let p = appended-primed r i j g (f .leading) (reply-place r m f) in
+        let l = appended-has r i j in
+        let x : Slot = slotAt (grownWindow r m) i in
+        let k : Like x (notedSlot (strict (r .sc)) peer x) = record { status = refl; ballot = refl; batch = refl; vote = refl } in
+        put-primed p i (notedSlot (strict (r .sc)) peer x) l (good-like (subst (GoodSlot (r .sc)) (at-here (grownWindow r m) i l) (p .good .each i)) k) (still k)
 
     said : Answers r m → (v′ : View) (all : List Act) → v′ .seen ≡ r .sc .«bal_max_seen» → All (ActOk (view (r .sc) (r .window)) c v′ all) (appendActs r i)
     said f v′ all s =
@@ -261,12 +272,12 @@ replyOn-ok r c g peer m t =
     primed : Answers r m → (w : Window) → Primed (r .sc) (r .window) w → StepOk (view (r .sc) (r .window)) c 0 (tabledSc r peer m) w (appendActs r i)
     primed f w p = primed-ok (r .sc) (r .window) c g (f .leading) (appendActs r i) (said f) (tabledSc r peer m) w (tabled-same (r .sc) (r .bars) peer (m .bar)) p
 
-    enter : Answers r m → Heard r peer m → (sc′ : Scalars) → Same (r .sc) sc′
-        → StepOk (view (r .sc) (r .window)) c 0 sc′ (sweep (λ i s. enteredSlot s) j (replyWindow r m .len) (countedWindow r peer m))
-        (appendActs r i ++ gather (λ k. enterActs (number (r .sc) k) (m .ballot) (slotAt (countedWindow r peer m) k)) j (replyWindow r m .len))
-    enter f h sc′ q =
-        entered-ok (r .sc) (r .window) c g (f .leading) (appendActs r i) (said f) sc′ (countedWindow r peer m) j (m .ballot) q
-        (counted-primed r peer m f (heard-primed r peer m t h (wide f))) (f .sent ∙ g .sent (f .leading))
+    enter : Answers r m → (sc′ : Scalars) → Same (r .sc) sc′
+        → StepOk (view (r .sc) (r .window)) c 0 sc′ (sweep (λ i s. enteredSlot (strict (r .sc)) (m .ballot) s) j (replyWindow r peer m .len) (countedWindow r peer m))
+        (appendActs r i ++ gather (λ k. enterActs (number (r .sc) k) (m .ballot) (slotAt (countedWindow r peer m) k)) j (replyWindow r peer m .len))
+    enter f sc′ q =
+        entered-ok (r .sc) (r .window) c g (f .leading) (appendActs r i) (said f) sc′ (strict (r .sc)) (countedWindow r peer m) j (m .ballot) q
+        (counted-primed r peer m f (heard-primed r peer m t (wide f))) (f .sent ∙ g .sent (f .leading))
 
 pub prepareReplyStep-ok : (r : Replica) (c : Call) → GoodReplica r → (room peer : ℕ) (m : Reply) → Ok r c (prepareReplyStep r room peer m)
 prepareReplyStep-ok r c g room peer m =

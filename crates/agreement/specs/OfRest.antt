@@ -19,9 +19,9 @@ use Rattle.actions.specs.declared.Action.the-variants.{Accept}
 use Rattle.actions.specs.Actions.{Act, act}
 use Rattle.slots.specs.declared.Vote.{Vote}
 use Rattle.slots.specs.declared.Slot.{Slot}
-use Rattle.slots.specs.Slots.{committed, loggedSlot, passedSlot, executedSlot, offeredSlot, nullSlot}
+use Rattle.slots.specs.Slots.{noVote, committed, loggedSlot, passedSlot, executedSlot, offeredSlot, nullSlot}
 use Rattle.decide.specs.declared.Scalars.{Scalars}
-use Rattle.decide.specs.Scalars.{leads, urgent, withLogSize}
+use Rattle.decide.specs.Scalars.{leads, strict, urgent, withLogSize}
 use Rattle.decide.specs.Decide.{proposal, sentVote, decideOffer}
 use Rattle.decide.specs.PrepareReply.{ownReply}
 use Rattle.window.specs.declared.Window.{Window}
@@ -113,12 +113,12 @@ module _ (r : Replica) (c : Call) (g : GoodReplica r) where
       (λ z. absurd (z refl))
 
   -- an AcceptData entry, before accept_bar moves
-  completed-ok : (i slot : ℕ) → slot ≡ r .sc .start + i → i < r .window .len → (after : Replica) (acts : List Act) → Completes r i slot after acts
+  completed-ok : (i slot ballot : ℕ) → slot ≡ r .sc .start + i → i < r .window .len → (after : Replica) (acts : List Act) → Completes r i slot ballot after acts
       → StepOk (view (r .sc) (r .window)) c 0 (after .sc) (after .window) acts
-  completed-ok i slot at h _ _ completes-silent = idle-ok (r .sc) (r .window) c 0 [] g (λ _ _ _ _. tt) (λ _. refl)
-  completed-ok i slot at h _ _ (completes-more b a q) = acked-ok (r .sc) (r .window) c g slot i at h (r .sc .id)
-  completed-ok i slot at h _ _ (completes-commit b a q) = marked-ok (r .sc) (r .window) c g slot i at h (r .sc .id) (a .status) (a .leading)
-  completed-ok i slot at h _ _ (completes-report n p) = idle-ok (r .sc) (r .window) c 0 _ g (λ _ _ _ _. ((tt, tt), tt)) (λ z. absurd (z refl))
+  completed-ok i slot ballot at h _ _ completes-silent = idle-ok (r .sc) (r .window) c 0 [] g (λ _ _ _ _. tt) (λ _. refl)
+  completed-ok i slot ballot at h _ _ (completes-more k b a q) = acked-ok (r .sc) (r .window) c g slot i at h (r .sc .id)
+  completed-ok i slot ballot at h _ _ (completes-commit k b a q) = marked-ok (r .sc) (r .window) c g slot i at h (r .sc .id) (a .status) (a .leading)
+  completed-ok i slot ballot at h _ _ (completes-report k n p) = idle-ok (r .sc) (r .window) c 0 _ g (λ _ _ _ _. ((tt, tt), tt)) (λ z. absurd (z refl))
 
 -- accept_bar moves
 moved-ok : (v : View) (c : Call) (r : Replica) (slot : ℕ) (acts : List Act) → StepOk v c 0 (r .sc) (r .window) acts
@@ -187,16 +187,16 @@ loggedStep-ok r c g room d =
     let own : Outcome = replyOn r′ (r′ .sc .id) (ownReply (r′ .sc) (loggedAt r d) (d .slot)) in
     pick-cases (Ok r c) (eqb (own .answer) 0) (λ _. from-logged r g d f c _ _ _ _ (replyOn-ok r′ c (logged-good r g d f) (r′ .sc .id) (ownReply (r′ .sc) (loggedAt r d) (d .slot)) (tidy-vote r g d f)))
     (λ _. kept-ok r c g (own .answer)))
-    (λ f e n p. from-logged r g d f c 0 _ _ _ (idle-ok (r′ .sc) (r′ .window) c 0 _ (logged-good r g d f) (λ _ _ _ _. ((tt, tt), tt)) (λ z. absurd (z refl))))
+    (λ f e h n p. from-logged r g d f c 0 _ _ _ (idle-ok (r′ .sc) (r′ .window) c 0 _ (logged-good r g d f) (λ _ _ _ _. ((tt, tt), tt)) (λ z. absurd (z refl))))
     (λ f e after acts k. moved-ok _ c after (d .slot) acts
-    (from-logged r g d f c 0 _ _ _ (completed-ok r′ c (logged-good r g d f) (place (r .sc) (d .slot)) (d .slot) (logged-at r g d f) (logged-in r g d f) after acts k)))
+    (from-logged r g d f c 0 _ _ _ (completed-ok r′ c (logged-good r g d f) (place (r .sc) (d .slot)) (d .slot) (d .ballot) (logged-at r g d f) (logged-in r g d f) after acts k)))
     (λ f e at. from-logged r g d f c 0 _ _ _ (passed-ok r′ c (logged-good r g d f)))
 
 -- ── offer ──
 module _ (sc : Scalars) (w : Window) (c : Call) (g : Good sc w) (i slot : ℕ) (b : Batch) (at : slot ≡ sc .start + i) (h : i < w .len) (null : atPlace w i .status < 2)
-    (lead : leads sc ≡ true) (ballot : ℕ) (top : ballot ≡ sc .«bal_max_seen») (t : Clean b) where
+    (lead : leads sc ≡ true) (kind : Bool) (ballot : ℕ) (top : ballot ≡ sc .«bal_max_seen») (t : Clean b) where
   abbrev pub offered : Slot
-  offered = offeredSlot ballot b
+  offered = offeredSlot kind ballot b
 
   abbrev pub offeredW : Window
   offeredW = putSlot w i offered
@@ -213,7 +213,7 @@ module _ (sc : Scalars) (w : Window) (c : Call) (g : Good sc w) (i slot : ℕ) (
       put-cases w i offered (Turned (view sc w) sc (view sc offeredW) offers (sc .start + k) (atPlace w k)) k
       (λ e _.
       record {
-        good = record { under = omega arith; busy = λ _ _ _. top; tidy = t; tidyVote = refl };
+        good = record { under = omega arith; busy = λ _ _ _. top; tidy = t; tidyVote = pick-both (λ (v : Vote). Clean (v .batch)) kind {a = record { ballot = ballot; batch = b }} {b = noVote} t refl };
         step = wrote (omega arith) (List·Memᴰ·head (ap (λ (z : ℕ). acceptEntry z ballot b) (omega arith)));
         rise = λ _ z. absurd (omega arith);
       })
@@ -244,7 +244,7 @@ offerStep-ok r c g room b =
     grew-ok (r .sc) (r .window) w c 0 (r .sc) _ _ q
     (offered-ok (r .sc) w c (good-grew g q) (r .window .len) (logEnd r) (clean b) refl (omega (arith, filled-has nullSlot (r .window) (r .window .len + 1)))
     (subst (λ (x : Slot). x .status < 2) (sym (q .each (r .window .len) ∙ at-past (r .window) (r .window .len) (omega arith))) (omega arith))
-    (a .0) (r .sc .«bal_prepared») (z ∙ g .sent (a .0)) (clean-clean b)))
+    (a .0) (strict (r .sc)) (r .sc .«bal_prepared») (z ∙ g .sent (a .0)) (clean-clean b)))
 
 -- ── executed ──
 executed-each : (sc : Scalars) (w : Window) (c : Call) (sc′ : Scalars) (i : ℕ) → Good sc w → Same sc sc′ → i < w .len

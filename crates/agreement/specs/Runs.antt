@@ -1,6 +1,6 @@
 -- Runs of a group of three, by computation: the theorem is about something, and demand 3 does not promise more than it says.
 use mathlib.Core.Path.{_≡_, refl, ap}
-use mathlib.Core.Bool.{Bool, true, _&&_}
+use mathlib.Core.Bool.{Bool, true, false, _&&_}
 use mathlib.Core.List.{List, [], _∷_, _++_, List·Memᴰ·head, List·Memᴰ·tail}
 use mathlib.Core.Logic.{_⊎_, inl, inr}
 use Prim.Native.Nat.{ℕ, zero, suc}
@@ -22,6 +22,7 @@ use Rattle.slots.specs.Slots.{fitSlot}
 use Rattle.decide.specs.Bars.{notAbove, leastMajority, withBar, withFallen}
 use Rattle.decide.specs.Decide.{decideAccept, decideAcceptReply, decideVote, decideCount, decidePromised, decideAccepted, decideOffer}
 use Rattle.decide.specs.Scalars.{fitScalars}
+use Rattle.window.specs.Counting.{counts}
 use Rattle.window.specs.Window.{fitSlots, lastUsed, firstOpen, lastOpen, markStop, filled}
 use Rattle.window.specs.ByPlace.{atPlace}
 use Rattle.replica.specs.declared.Entry.{Entry}
@@ -120,7 +121,7 @@ unfolding newReplica
 three-made m e = rw e
 
 unfoldable pub three : Group
-three = record { size = 3; start = 0; options = λ m. 1; present = λ m. ltb m 3; made = three-made }
+three = record { size = 3; start = 0; options = λ m. 1; present = λ m. ltb m 3; strict = false; made = three-made; alike = λ m _. refl }
 
 abbrev pub seven : Batch
 seven = record { id = 7; count = 1; keys = 5 ∷ replicate 7 0 }
@@ -173,7 +174,7 @@ pub record ThreeMarked (w : World) : Type 0 where
   pub marks : w .marks ≡ mark 1 0 514 emptyBatch ∷ mark 1 1 514 seven ∷ mark 2 0 514 emptyBatch ∷ mark 2 1 514 seven ∷ mark 0 0 514 emptyBatch ∷ mark 0 1 514 seven ∷ []
 
 pub three-marked : ThreeMarked changedWorld
-unfolding play happen deliver changed three begin put upd marksOf atPlace numbered newReplica fit fitScalars fitSlots fitReads fitSlot filled noting settled prepareOn prepareStep lastUsed countedOn votedOn repliedOn replyOn prepareReplyStep acceptStep acceptReplyStep firstOpen lastOpen leadOn stepUp timeoutStep markOn markStop commitNoticeStep preparedDone movedAccept acceptedDone passOn passStop committedDone loggedOn loggedStep openReadStep repliedStep readReplyStep offerStep movedExec executedStep decideAccept decideAcceptReply decideVote decideCount decidePromised decideAccepted decideOffer notAbove leastMajority withBar withFallen has insert count countIn makeBatch noteKey noteKeys newKeys placeIn overfullIn merge findRead openRead closeRead putRead replyTo scan
+unfolding play happen deliver changed three begin put upd marksOf atPlace numbered newReplica fit fitScalars fitSlots fitReads fitSlot filled noting settled prepareOn prepareStep lastUsed countedOn votedOn repliedOn replyOn prepareReplyStep acceptStep acceptReplyStep firstOpen lastOpen leadOn stepUp timeoutStep markOn markStop commitNoticeStep preparedDone movedAccept acceptedDone passOn passStop committedDone loggedOn loggedStep openReadStep repliedStep readReplyStep offerStep movedExec executedStep decideAccept decideAcceptReply decideVote decideCount decidePromised decideAccepted decideOffer notAbove leastMajority withBar withFallen has insert count countIn makeBatch noteKey noteKeys newKeys placeIn overfullIn merge findRead openRead closeRead putRead replyTo scan counts
 three-marked =
     record { offered = further 6 (changedWorld .did 0) (List·Memᴰ·head refl); committed = further 13 (changedWorld .did 1) (List·Memᴰ·head refl); marks = refl }
 
@@ -184,7 +185,7 @@ pub record TwoBatches (w : World) : Type 0 where
   pub entry′ : acceptEntry 1 771 seven ∈ w .did 2
 
 pub two-batches : TwoBatches lateWorld
-unfolding play happen deliver late three begin put upd marksOf atPlace numbered newReplica fit fitScalars fitSlots fitReads fitSlot filled noting settled prepareOn prepareStep lastUsed countedOn votedOn repliedOn replyOn prepareReplyStep acceptStep acceptReplyStep firstOpen lastOpen leadOn stepUp timeoutStep markOn markStop commitNoticeStep preparedDone movedAccept acceptedDone passOn passStop committedDone loggedOn loggedStep openReadStep repliedStep readReplyStep offerStep movedExec executedStep decideAccept decideAcceptReply decideVote decideCount decidePromised decideAccepted decideOffer notAbove leastMajority withBar withFallen has insert count countIn makeBatch noteKey noteKeys newKeys placeIn overfullIn merge findRead openRead closeRead putRead replyTo scan
+unfolding play happen deliver late three begin put upd marksOf atPlace numbered newReplica fit fitScalars fitSlots fitReads fitSlot filled noting settled prepareOn prepareStep lastUsed countedOn votedOn repliedOn replyOn prepareReplyStep acceptStep acceptReplyStep firstOpen lastOpen leadOn stepUp timeoutStep markOn markStop commitNoticeStep preparedDone movedAccept acceptedDone passOn passStop committedDone loggedOn loggedStep openReadStep repliedStep readReplyStep offerStep movedExec executedStep decideAccept decideAcceptReply decideVote decideCount decidePromised decideAccepted decideOffer notAbove leastMajority withBar withFallen has insert count countIn makeBatch noteKey noteKeys newKeys placeIn overfullIn merge findRead openRead closeRead putRead replyTo scan counts
 two-batches = record { marks = refl; entry = further 9 (lateWorld .did 1) (List·Memᴰ·head refl); entry′ = further 11 (lateWorld .did 2) (List·Memᴰ·head refl) }
 
 -- so the theorem's last two parts are false where "at one ballot" is left out
@@ -216,13 +217,13 @@ unfolding newReplica
 alone-made m e = rw e
 
 unfoldable pub alone : Group
-alone = record { size = 1; start = 0; options = λ m. 0; present = λ m. ltb m 1; made = alone-made }
+alone = record { size = 1; start = 0; options = λ m. 0; present = λ m. ltb m 1; strict = false; made = alone-made; alike = λ m _. refl }
 
 unfoldable pub once : Batch → List Turn
 once b = times 0 0 ∷ logs 0 PrepareBal 0 257 40 ∷ offers 0 b ∷ []
 
 pub one-id : (acceptEntry 1 257 seven ∈ play (begin alone) (once seven) .did 0) × (acceptEntry 1 257 eight ∈ play (begin alone) (once eight) .did 0)
-unfolding play happen deliver once alone begin put upd marksOf atPlace numbered newReplica fit fitScalars fitSlots fitReads fitSlot filled noting settled prepareOn prepareStep lastUsed countedOn votedOn repliedOn replyOn prepareReplyStep acceptStep acceptReplyStep firstOpen lastOpen leadOn stepUp timeoutStep markOn markStop commitNoticeStep preparedDone movedAccept acceptedDone passOn passStop committedDone loggedOn loggedStep openReadStep repliedStep readReplyStep offerStep movedExec executedStep decideAccept decideAcceptReply decideVote decideCount decidePromised decideAccepted decideOffer notAbove leastMajority withBar withFallen has insert count countIn makeBatch noteKey noteKeys newKeys placeIn overfullIn merge findRead openRead closeRead putRead replyTo scan
+unfolding play happen deliver once alone begin put upd marksOf atPlace numbered newReplica fit fitScalars fitSlots fitReads fitSlot filled noting settled prepareOn prepareStep lastUsed countedOn votedOn repliedOn replyOn prepareReplyStep acceptStep acceptReplyStep firstOpen lastOpen leadOn stepUp timeoutStep markOn markStop commitNoticeStep preparedDone movedAccept acceptedDone passOn passStop committedDone loggedOn loggedStep openReadStep repliedStep readReplyStep offerStep movedExec executedStep decideAccept decideAcceptReply decideVote decideCount decidePromised decideAccepted decideOffer notAbove leastMajority withBar withFallen has insert count countIn makeBatch noteKey noteKeys newKeys placeIn overfullIn merge findRead openRead closeRead putRead replyTo scan counts
 one-id = (further 6 (play (begin alone) (once seven) .did 0) (List·Memᴰ·head refl), further 6 (play (begin alone) (once eight) .did 0) (List·Memᴰ·head refl))
 
 -- ── what the paper asks for, and does not hold: the entries of `late`, read by Unsafe ──
@@ -236,7 +237,7 @@ pub record LateEntries (w : World) : Type 0 where
   pub sent : acceptSent 1 514 emptyBatch ∈ w .did 1
 
 pub late-entries : LateEntries lateWorld
-unfolding play happen deliver late three begin put upd marksOf atPlace numbered newReplica fit fitScalars fitSlots fitReads fitSlot filled noting settled prepareOn prepareStep lastUsed countedOn votedOn repliedOn replyOn prepareReplyStep acceptStep acceptReplyStep firstOpen lastOpen leadOn stepUp timeoutStep markOn markStop commitNoticeStep preparedDone movedAccept acceptedDone passOn passStop committedDone loggedOn loggedStep openReadStep repliedStep readReplyStep offerStep movedExec executedStep decideAccept decideAcceptReply decideVote decideCount decidePromised decideAccepted decideOffer notAbove leastMajority withBar withFallen has insert count countIn makeBatch noteKey noteKeys newKeys placeIn overfullIn merge findRead openRead closeRead putRead replyTo scan lines
+unfolding play happen deliver late three begin put upd marksOf atPlace numbered newReplica fit fitScalars fitSlots fitReads fitSlot filled noting settled prepareOn prepareStep lastUsed countedOn votedOn repliedOn replyOn prepareReplyStep acceptStep acceptReplyStep firstOpen lastOpen leadOn stepUp timeoutStep markOn markStop commitNoticeStep preparedDone movedAccept acceptedDone passOn passStop committedDone loggedOn loggedStep openReadStep repliedStep readReplyStep offerStep movedExec executedStep decideAccept decideAcceptReply decideVote decideCount decidePromised decideAccepted decideOffer notAbove leastMajority withBar withFallen has insert count countIn makeBatch noteKey noteKeys newKeys placeIn overfullIn merge findRead openRead closeRead putRead replyTo scan lines counts
 late-entries =
     record {
       of-0 = refl;
@@ -267,7 +268,7 @@ pub record TwiceEntries (w : World) : Type 0 where
   pub empty-1 : acceptEntry 1 514 emptyBatch ∈ w .did 1
 
 pub twice-entries : TwiceEntries twiceWorld
-unfolding play happen deliver late three begin put upd marksOf atPlace numbered newReplica fit fitScalars fitSlots fitReads fitSlot filled noting settled prepareOn prepareStep lastUsed countedOn votedOn repliedOn replyOn prepareReplyStep acceptStep acceptReplyStep firstOpen lastOpen leadOn stepUp timeoutStep markOn markStop commitNoticeStep preparedDone movedAccept acceptedDone passOn passStop committedDone loggedOn loggedStep openReadStep repliedStep readReplyStep offerStep movedExec executedStep decideAccept decideAcceptReply decideVote decideCount decidePromised decideAccepted decideOffer notAbove leastMajority withBar withFallen has insert count countIn makeBatch noteKey noteKeys newKeys placeIn overfullIn merge findRead openRead closeRead putRead replyTo scan twice
+unfolding play happen deliver late three begin put upd marksOf atPlace numbered newReplica fit fitScalars fitSlots fitReads fitSlot filled noting settled prepareOn prepareStep lastUsed countedOn votedOn repliedOn replyOn prepareReplyStep acceptStep acceptReplyStep firstOpen lastOpen leadOn stepUp timeoutStep markOn markStop commitNoticeStep preparedDone movedAccept acceptedDone passOn passStop committedDone loggedOn loggedStep openReadStep repliedStep readReplyStep offerStep movedExec executedStep decideAccept decideAcceptReply decideVote decideCount decidePromised decideAccepted decideOffer notAbove leastMajority withBar withFallen has insert count countIn makeBatch noteKey noteKeys newKeys placeIn overfullIn merge findRead openRead closeRead putRead replyTo scan twice counts
 twice-entries =
     record {
       marks = refl;
@@ -290,7 +291,7 @@ pub record NoticeMarks (w : World) : Type 0 where
   pub marks : marksOf 2 (w .replica 2) (step (w .replica 2) 3456 (callCommitNotice 1 514 2) .replica) ≡ mark 2 0 514 emptyBatch ∷ mark 2 1 514 seven ∷ []
 
 pub notice-marks : NoticeMarks noticedWorld
-unfolding play happen deliver changed three begin put upd marksOf atPlace numbered newReplica fit fitScalars fitSlots fitReads fitSlot filled noting settled prepareOn prepareStep lastUsed countedOn votedOn repliedOn replyOn prepareReplyStep acceptStep acceptReplyStep firstOpen lastOpen leadOn stepUp timeoutStep markOn markStop commitNoticeStep preparedDone movedAccept acceptedDone passOn passStop committedDone loggedOn loggedStep openReadStep repliedStep readReplyStep offerStep movedExec executedStep decideAccept decideAcceptReply decideVote decideCount decidePromised decideAccepted decideOffer notAbove leastMajority withBar withFallen has insert count countIn makeBatch noteKey noteKeys newKeys placeIn overfullIn merge findRead openRead closeRead putRead replyTo scan
+unfolding play happen deliver changed three begin put upd marksOf atPlace numbered newReplica fit fitScalars fitSlots fitReads fitSlot filled noting settled prepareOn prepareStep lastUsed countedOn votedOn repliedOn replyOn prepareReplyStep acceptStep acceptReplyStep firstOpen lastOpen leadOn stepUp timeoutStep markOn markStop commitNoticeStep preparedDone movedAccept acceptedDone passOn passStop committedDone loggedOn loggedStep openReadStep repliedStep readReplyStep offerStep movedExec executedStep decideAccept decideAcceptReply decideVote decideCount decidePromised decideAccepted decideOffer notAbove leastMajority withBar withFallen has insert count countIn makeBatch noteKey noteKeys newKeys placeIn overfullIn merge findRead openRead closeRead putRead replyTo scan counts
 notice-marks =
     record {
       may =

@@ -3,11 +3,11 @@
 -- arrives unchanged under its true sender, and none is made up. Then: the ballots in the prepare and accept entries each replica writes to its
 -- log never fall; any two accept entries in any logs for one slot and ballot name one batch; two replicas that mark a slot committed at one
 -- ballot hold the same batch in it as they mark it. (No claim across ballots: a log completion here names no ballot.)" Since 02's fifth wish it names
--- one, which this kind of replica ignores (Ignored).
+-- one, which a base replica ignores (Ignored) and a strict one asks for.
 use mathlib.Core.Path.{_≡_}
 use mathlib.Core.Bool.{Bool, true, _&&_}
 use mathlib.Core.List.{List, [], _∷_, _++_}
-use Prim.Native.Nat.{ℕ, _≤_}
+use Prim.Native.Nat.{ℕ, _/_, _%_, _≤_}
 use lib.Dec.{ltb, leb, eqb}
 use Rattle.base.specs.Pick.{pick}
 use Rattle.base.specs.Gather.{gather}
@@ -26,14 +26,17 @@ use Rattle.replica.specs.Record.{Outcome, newReplica, logEnd}
 use Rattle.replica.specs.Step.{Call, callTimeout, callLogged, callOffer, callExecuted, callOpenRead, callReadReply, step, received}
 use Rattle.agreement.specs.BySlot.{numbered}
 
--- ── a group: "replicas of one group, ids distinct, all fresh with the same start slot"; any members present, any options ──
+-- ── a group: "replicas of one group, ids distinct, all fresh with the same start slot"; any members present, any options, but for the kind: 02,
+-- Wish 6, "Demand 3 holds for groups of one kind" ──
 -- each present member is what a call of new gave under its own id
 pub record Group : Type 0 where
   pub size : ℕ
   pub start : ℕ
   pub options : ℕ → ℕ
   pub present : ℕ → Bool
+  pub strict : Bool
   pub made : (m : ℕ) → present m ≡ true → newReplica m size start (options m) .answer ≡ 0
+  pub alike : (m : ℕ) → present m ≡ true → eqb (options m / 4 % 2) 1 ≡ strict
 
 -- a slot marked committed: by whom, and the ballot and batch that it holds as it is marked
 pub record Mark : Type 0 where

@@ -16,6 +16,7 @@ use Rattle.slots.specs.Slots.{fitSlot}
 use Rattle.decide.specs.Bars.{notAbove, leastMajority, withBar, withFallen}
 use Rattle.decide.specs.Decide.{decideAccept, decideAcceptReply, decideVote, decideCount, decidePromised, decideAccepted, decideOffer}
 use Rattle.decide.specs.Scalars.{fitScalars}
+use Rattle.window.specs.Counting.{counts}
 use Rattle.window.specs.Window.{fitSlots, lastUsed, firstOpen, lastOpen, markStop, filled}
 use Rattle.window.specs.ByPlace.{atPlace}
 use Rattle.replica.specs.Record.{newReplica, noting, settled}
@@ -126,12 +127,12 @@ play-true g (t ∷ l) w r e f =
 
 -- ── the two runs ──
 pub changed-fair : fairRun (begin three) changed ≡ true
-unfolding fairRun fairTurn fairCalls fair play happen deliver changed three begin put upd marksOf atPlace numbered newReplica fit fitScalars fitSlots fitReads fitSlot filled noting settled prepareOn prepareStep lastUsed countedOn votedOn repliedOn replyOn prepareReplyStep acceptStep acceptReplyStep firstOpen lastOpen leadOn stepUp timeoutStep markOn markStop commitNoticeStep preparedDone movedAccept acceptedDone passOn passStop committedDone loggedOn loggedStep openReadStep repliedStep readReplyStep offerStep movedExec executedStep decideAccept decideAcceptReply decideVote decideCount decidePromised decideAccepted decideOffer notAbove leastMajority withBar withFallen has insert count countIn makeBatch noteKey noteKeys newKeys placeIn overfullIn merge findRead openRead closeRead putRead replyTo scan
+unfolding fairRun fairTurn fairCalls fair play happen deliver changed three begin put upd marksOf atPlace numbered newReplica fit fitScalars fitSlots fitReads fitSlot filled noting settled prepareOn prepareStep lastUsed countedOn votedOn repliedOn replyOn prepareReplyStep acceptStep acceptReplyStep firstOpen lastOpen leadOn stepUp timeoutStep markOn markStop commitNoticeStep preparedDone movedAccept acceptedDone passOn passStop committedDone loggedOn loggedStep openReadStep repliedStep readReplyStep offerStep movedExec executedStep decideAccept decideAcceptReply decideVote decideCount decidePromised decideAccepted decideOffer notAbove leastMajority withBar withFallen has insert count countIn makeBatch noteKey noteKeys newKeys placeIn overfullIn merge findRead openRead closeRead putRead replyTo scan counts
 changed-fair = refl
 
 -- member 2 answers at 514 for a slot that it accepted at 257 alone and has put back since
 pub late-unfair : fairRun (begin three) late ≡ false
-unfolding fairRun fairTurn fairCalls fair play happen deliver late three begin put upd marksOf atPlace numbered newReplica fit fitScalars fitSlots fitReads fitSlot filled noting settled prepareOn prepareStep lastUsed countedOn votedOn repliedOn replyOn prepareReplyStep acceptStep acceptReplyStep firstOpen lastOpen leadOn stepUp timeoutStep markOn markStop commitNoticeStep preparedDone movedAccept acceptedDone passOn passStop committedDone loggedOn loggedStep openReadStep repliedStep readReplyStep offerStep movedExec executedStep decideAccept decideAcceptReply decideVote decideCount decidePromised decideAccepted decideOffer notAbove leastMajority withBar withFallen has insert count countIn makeBatch noteKey noteKeys newKeys placeIn overfullIn merge findRead openRead closeRead putRead replyTo scan
+unfolding fairRun fairTurn fairCalls fair play happen deliver late three begin put upd marksOf atPlace numbered newReplica fit fitScalars fitSlots fitReads fitSlot filled noting settled prepareOn prepareStep lastUsed countedOn votedOn repliedOn replyOn prepareReplyStep acceptStep acceptReplyStep firstOpen lastOpen leadOn stepUp timeoutStep markOn markStop commitNoticeStep preparedDone movedAccept acceptedDone passOn passStop committedDone loggedOn loggedStep openReadStep repliedStep readReplyStep offerStep movedExec executedStep decideAccept decideAcceptReply decideVote decideCount decidePromised decideAccepted decideOffer notAbove leastMajority withBar withFallen has insert count countIn makeBatch noteKey noteKeys newKeys placeIn overfullIn merge findRead openRead closeRead putRead replyTo scan counts
 late-unfair = refl
 
 -- ── a commit in the first run: member 1 gets 2's AcceptReply for slot 1 at 514, and batch 7 is chosen ──
@@ -146,7 +147,7 @@ unfolding allPresent three untilCommit changed
 until-present = refl
 
 until-fair : fairRun (begin three) untilCommit ≡ true
-unfolding fairRun fairTurn fairCalls fair untilCommit play happen deliver changed three begin put upd marksOf atPlace numbered newReplica fit fitScalars fitSlots fitReads fitSlot filled noting settled prepareOn prepareStep lastUsed countedOn votedOn repliedOn replyOn prepareReplyStep acceptStep acceptReplyStep firstOpen lastOpen leadOn stepUp timeoutStep markOn markStop commitNoticeStep preparedDone movedAccept acceptedDone passOn passStop committedDone loggedOn loggedStep openReadStep repliedStep readReplyStep offerStep movedExec executedStep decideAccept decideAcceptReply decideVote decideCount decidePromised decideAccepted decideOffer notAbove leastMajority withBar withFallen has insert count countIn makeBatch noteKey noteKeys newKeys placeIn overfullIn merge findRead openRead closeRead putRead replyTo scan
+unfolding fairRun fairTurn fairCalls fair untilCommit play happen deliver changed three begin put upd marksOf atPlace numbered newReplica fit fitScalars fitSlots fitReads fitSlot filled noting settled prepareOn prepareStep lastUsed countedOn votedOn repliedOn replyOn prepareReplyStep acceptStep acceptReplyStep firstOpen lastOpen leadOn stepUp timeoutStep markOn markStop commitNoticeStep preparedDone movedAccept acceptedDone passOn passStop committedDone loggedOn loggedStep openReadStep repliedStep readReplyStep offerStep movedExec executedStep decideAccept decideAcceptReply decideVote decideCount decidePromised decideAccepted decideOffer notAbove leastMajority withBar withFallen has insert count countIn makeBatch noteKey noteKeys newKeys placeIn overfullIn merge findRead openRead closeRead putRead replyTo scan counts
 until-fair = refl
 
 pub until-true : TrueReach three commitWorld
@@ -156,11 +157,11 @@ abbrev pub lastReply : Act
 lastReply = bare (AcceptReply (record { member = 1; slot = 1; ballot = 514 }))
 
 pub reply-was-sent : lastReply ∈ commitWorld .did 2
-unfolding untilCommit play happen deliver changed three begin put upd marksOf atPlace numbered newReplica fit fitScalars fitSlots fitReads fitSlot filled noting settled prepareOn prepareStep lastUsed countedOn votedOn repliedOn replyOn prepareReplyStep acceptStep acceptReplyStep firstOpen lastOpen leadOn stepUp timeoutStep markOn markStop commitNoticeStep preparedDone movedAccept acceptedDone passOn passStop committedDone loggedOn loggedStep openReadStep repliedStep readReplyStep offerStep movedExec executedStep decideAccept decideAcceptReply decideVote decideCount decidePromised decideAccepted decideOffer notAbove leastMajority withBar withFallen has insert count countIn makeBatch noteKey noteKeys newKeys placeIn overfullIn merge findRead openRead closeRead putRead replyTo scan
+unfolding untilCommit play happen deliver changed three begin put upd marksOf atPlace numbered newReplica fit fitScalars fitSlots fitReads fitSlot filled noting settled prepareOn prepareStep lastUsed countedOn votedOn repliedOn replyOn prepareReplyStep acceptStep acceptReplyStep firstOpen lastOpen leadOn stepUp timeoutStep markOn markStop commitNoticeStep preparedDone movedAccept acceptedDone passOn passStop committedDone loggedOn loggedStep openReadStep repliedStep readReplyStep offerStep movedExec executedStep decideAccept decideAcceptReply decideVote decideCount decidePromised decideAccepted decideOffer notAbove leastMajority withBar withFallen has insert count countIn makeBatch noteKey noteKeys newKeys placeIn overfullIn merge findRead openRead closeRead putRead replyTo scan counts
 reply-was-sent = further 5 (commitWorld .did 2) (List·Memᴰ·head refl)
 
 pub commit-met : commitOf 1 514 ∈ step (commitWorld .replica 1) 3456 (callAcceptReply 2 1 514) .actions
-unfolding untilCommit play happen deliver changed three begin put upd marksOf atPlace numbered newReplica fit fitScalars fitSlots fitReads fitSlot filled noting settled prepareOn prepareStep lastUsed countedOn votedOn repliedOn replyOn prepareReplyStep acceptStep acceptReplyStep firstOpen lastOpen leadOn stepUp timeoutStep markOn markStop commitNoticeStep preparedDone movedAccept acceptedDone passOn passStop committedDone loggedOn loggedStep openReadStep repliedStep readReplyStep offerStep movedExec executedStep decideAccept decideAcceptReply decideVote decideCount decidePromised decideAccepted decideOffer notAbove leastMajority withBar withFallen has insert count countIn makeBatch noteKey noteKeys newKeys placeIn overfullIn merge findRead openRead closeRead putRead replyTo scan
+unfolding untilCommit play happen deliver changed three begin put upd marksOf atPlace numbered newReplica fit fitScalars fitSlots fitReads fitSlot filled noting settled prepareOn prepareStep lastUsed countedOn votedOn repliedOn replyOn prepareReplyStep acceptStep acceptReplyStep firstOpen lastOpen leadOn stepUp timeoutStep markOn markStop commitNoticeStep preparedDone movedAccept acceptedDone passOn passStop committedDone loggedOn loggedStep openReadStep repliedStep readReplyStep offerStep movedExec executedStep decideAccept decideAcceptReply decideVote decideCount decidePromised decideAccepted decideOffer notAbove leastMajority withBar withFallen has insert count countIn makeBatch noteKey noteKeys newKeys placeIn overfullIn merge findRead openRead closeRead putRead replyTo scan counts
 commit-met = List·Memᴰ·head refl
 
 one-present : three .present 1 ≡ true

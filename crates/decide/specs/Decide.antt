@@ -5,16 +5,17 @@ use lib.Dec.{ltb, leb, eqb}
 use Rattle.base.specs.Pick.{pick}
 use Rattle.members.specs.Sets.{has, countIn}
 use Rattle.batch.specs.declared.Batch.{Batch}
+use Rattle.batch.specs.Batches.{sameBatch}
 use Rattle.actions.specs.declared.Action.the-variants.{AcceptData, CommitSlot, PrepareReply, Accept, AcceptReply, StatusDown}
 use Rattle.actions.specs.declared.Says.the-variants.{Nothing, One, Two}
 use Rattle.actions.specs.declared.Proposal.{Proposal}
 use Rattle.actions.specs.Actions.{noKeys}
 use Rattle.slots.specs.declared.Vote.{Vote}
 use Rattle.slots.specs.declared.Slot.{Slot}
-use Rattle.slots.specs.Slots.{preparing, accepting, noVote, adoptedSlot, countedSlot, acceptedSlot, acknowledgedSlot, committedSlot, offeredSlot}
+use Rattle.slots.specs.Slots.{preparing, accepting, committed, noVote, adoptedSlot, countedSlot, acceptedSlot, acknowledgedSlot, committedSlot, offeredSlot}
 use Rattle.decide.specs.declared.Scalars.{Scalars}
 use Rattle.decide.specs.declared.Decided.{Decided}
-use Rattle.decide.specs.Scalars.{leads, quorum, followed, stepsDown, withPrepared}
+use Rattle.decide.specs.Scalars.{leads, quorum, strict, followed, stepsDown, withPrepared}
 
 -- nothing is said: ignored, refused, or only noted
 abbrev pub silent : ℕ → Scalars → Slot → Decided
@@ -23,18 +24,23 @@ silent answer sc s = record { answer = answer; noted = false; sc = sc; slot = s;
 abbrev pub proposal : ℕ → ℕ → Batch → Proposal
 proposal slot ballot b = record { slot = slot; ballot = ballot; batch = b .id; count = b .count }
 
+-- 15: "strict Accept with another batch for a committed slot, after 5"; (d) would keep its status and take the batch
+abbrev pub namesOther : Scalars → Slot → Batch → Bool
+namesOther sc s b = strict sc && (leb committed (s .status) && not (sameBatch (s .batch) b))
+
 -- messages.rs, handle_msg_accept, where the ballot is not smaller than what was seen
 unfoldable pub decideAccept : Scalars → Slot → ℕ → ℕ → ℕ → Batch → Decided
 decideAccept sc s peer slot ballot b =
-    pick (ltb ballot (s .ballot)) (silent 6 sc s)
+    pick (namesOther sc s b) (silent 15 sc s)
+    (pick (ltb ballot (s .ballot)) (silent 6 sc s)
     (record {
       answer = 0;
       noted = true;
       sc = followed sc peer ballot;
-      slot = acceptedSlot peer ballot b s;
+      slot = acceptedSlot (strict sc) peer ballot b s;
       says = pick (stepsDown sc ballot) (Two StatusDown (AcceptData (proposal slot ballot b))) (One (AcceptData (proposal slot ballot b)));
       keys = b .keys;
-    })
+    }))
 
 -- "ignore spurious duplications and outdated replies"
 abbrev pub awaitsAccept : Scalars → Slot → ℕ → Bool
@@ -61,19 +67,24 @@ decideAcceptReply sc s peer slot ballot =
 abbrev pub awaitsPrepare : Slot → ℕ → Bool
 awaitsPrepare s ballot = eqb (s .status) preparing && leb (s .ballot) ballot
 
--- "a voted value replaces only on a strictly larger ballot"
+-- such a reply goes no further; at a strict leader it goes on to the count, 02, Wish 6, (c): "at any status"
+abbrev pub goesOn : Scalars → Slot → ℕ → Bool
+goesOn sc s ballot = strict sc || awaitsPrepare s ballot
+
+-- "a voted value replaces only on a strictly larger ballot", and only while replies are awaited
 unfoldable pub decideVote : Scalars → Slot → ℕ → Bool → Vote → Decided
 decideVote sc s ballot voted v =
-    pick (not (eqb (s .ballot) ballot) || (ltb (sc .«bal_max_seen») ballot || (voted && not (s .leader .present)))) (silent 6 sc s)
+    pick (not (awaitsPrepare s ballot)) (silent 0 sc s)
+    (pick (not (eqb (s .ballot) ballot) || (ltb (sc .«bal_max_seen») ballot || (voted && not (s .leader .present)))) (silent 6 sc s)
     (pick (voted && ltb (s .leader .«prepare_max_bal») (v .ballot))
     (record { answer = 0; noted = true; sc = sc; slot = adoptedSlot v s; says = Nothing; keys = noKeys })
-    (silent 0 sc s))
+    (silent 0 sc s)))
 
 -- a quorum of members is counted at the trigger slot
 abbrev pub isCounted : Scalars → Slot → Bool
 isCounted sc t = leb (quorum sc) (countIn (t .leader .«prepare_acks»))
 
--- "a member counts on its reply for its own endprep slot", at the trigger slot; at quorum "self.bal_prepared = ballot"
+-- a member that counts does so at the trigger slot; at quorum "self.bal_prepared = ballot"
 unfoldable pub decideCount : Scalars → Slot → ℕ → ℕ → Decided
 decideCount sc t peer ballot =
     pick (not (isCounted sc (countedSlot peer t))) (silent 0 sc (countedSlot peer t))
@@ -107,10 +118,16 @@ decidePromised sc s slot =
       keys = sentVote s .batch .keys;
     })
 
+-- 02, Wish 6, (a): "a prepare or accept completion replies or counts only if its ballot is the slot's ballot, and for an accept entry also the
+-- voted ballot; bars move as before"
+abbrev pub isStale : Scalars → Slot → ℕ → Bool → Bool
+isStale sc s ballot ofAccept = strict sc && not (eqb (s .ballot) ballot && (not ofAccept || eqb (s .vote .ballot) ballot))
+
 -- handle_logged_accept_data: on the leader "equivalent to receiving an Accept reply from myself", on a follower an AcceptReply to the source
-unfoldable pub decideAccepted : Scalars → Slot → ℕ → Decided
-decideAccepted sc s slot =
-    pick (leads sc)
+unfoldable pub decideAccepted : Scalars → Slot → ℕ → ℕ → Decided
+decideAccepted sc s slot ballot =
+    pick (isStale sc s ballot true) (silent 0 sc s)
+    (pick (leads sc)
     (pick (eqb (s .ballot) (sc .«bal_prepared»)) (decideAcceptReply sc s (sc .id) slot (s .ballot)) (silent 0 sc s))
     (pick (not (s .replica .present)) (silent 0 sc s)
     (record {
@@ -120,7 +137,7 @@ decideAccepted sc s slot =
       slot = s;
       says = One (AcceptReply (record { member = s .replica .source; slot = slot; ballot = s .ballot }));
       keys = noKeys;
-    }))
+    })))
 
 -- 9: "batch offered while self is not leader, bal_prepared is 0, or bal_prepared differs from bal_prep_sent"
 abbrev pub mayOffer : Scalars → Bool
@@ -133,7 +150,7 @@ decideOffer sc slot b =
       answer = 0;
       noted = true;
       sc = sc;
-      slot = offeredSlot (sc .«bal_prepared») b;
+      slot = offeredSlot (strict sc) (sc .«bal_prepared») b;
       says = Two (AcceptData (proposal slot (sc .«bal_prepared») b)) (Accept (proposal slot (sc .«bal_prepared») b));
       keys = b .keys;
     }

@@ -18,9 +18,9 @@ use Rattle.decide.specs.declared.PeerBars.{PeerBars}
 use Rattle.decide.specs.declared.Decided.{Decided}
 use Rattle.decide.specs.declared.Reply.{Reply}
 use Rattle.decide.specs.declared.Weighed.{Weighed}
-use Rattle.decide.specs.Scalars.{leads, quorum, followed, withPeerMax}
+use Rattle.decide.specs.Scalars.{leads, quorum, strict, followed, withPeerMax}
 use Rattle.decide.specs.Bars.{withFallen, hasEntry, barOf, leastMajority, withBar}
-use Rattle.decide.specs.Decide.{silent, decideAccept, awaitsAccept, decideAcceptReply, awaitsPrepare, decideVote, isCounted, decideCount, decidePromised, decideAccepted, decideOffer}
+use Rattle.decide.specs.Decide.{silent, namesOther, decideAccept, awaitsAccept, decideAcceptReply, awaitsPrepare, goesOn, decideVote, isCounted, decideCount, decidePromised, isStale, decideAccepted, decideOffer}
 use Rattle.decide.specs.Weighing.{unmoved, weighed}
 
 -- what no decision changes of the scalars; and the largest ballot seen never falls
@@ -72,10 +72,10 @@ steady-followed sc peer ballot =
     })
     (λ t. steady-self sc)
 
--- a decision is done (0), with steady scalars, or it is refused (6): then it changes nothing and says nothing
+-- a decision is done (0), with steady scalars, or it is refused (6 or 15): then it changes nothing and says nothing
 pub data Settles (sc : Scalars) (s : Slot) (d : Decided) : Type 0 where
   done : d .answer ≡ 0 → Steady sc (d .sc) → Settles sc s d
-  refused : d ≡ silent 6 sc s → Settles sc s d
+  refused : (n : ℕ) → (n ≡ 0 → ⊥) → d ≡ silent n sc s → Settles sc s d
 
 module _ (sc : Scalars) (s : Slot) where
   abbrev Ok : Decided → Type 0
@@ -83,27 +83,30 @@ module _ (sc : Scalars) (s : Slot) where
 
   pub settles-accept : (peer slot ballot : ℕ) (b : Batch) → Settles sc s (decideAccept sc s peer slot ballot b)
   unfolding decideAccept
-  settles-accept peer slot ballot b = pick-both Ok (ltb ballot (s .ballot)) (refused refl) (done refl (steady-followed sc peer ballot))
+  settles-accept peer slot ballot b =
+      pick-both Ok (namesOther sc s b) (refused 15 (λ z. omega arith) refl)
+      (pick-both Ok (ltb ballot (s .ballot)) (refused 6 (λ z. omega arith) refl) (done refl (steady-followed sc peer ballot)))
 
   pub settles-reply : (peer slot ballot : ℕ) → Settles sc s (decideAcceptReply sc s peer slot ballot)
   unfolding decideAcceptReply
   settles-reply peer slot ballot =
       pick-both Ok (not (awaitsAccept sc s ballot)) (done refl (steady-self sc))
-      (pick-both Ok (not (eqb (s .ballot) ballot) || (ltb (sc .«bal_max_seen») ballot || not (s .leader .present))) (refused refl)
+      (pick-both Ok (not (eqb (s .ballot) ballot) || (ltb (sc .«bal_max_seen») ballot || not (s .leader .present))) (refused 6 (λ z. omega arith) refl)
       (pick-both Ok (has (s .leader .«accept_acks») peer) (done refl (steady-self sc))
       (pick-both Ok (ltb (countIn (acknowledgedSlot peer s .leader .«accept_acks»)) (quorum sc)) (done refl (steady-self sc)) (done refl (steady-self sc)))))
 
   pub settles-vote : (ballot : ℕ) (voted : Bool) (v : Vote) → Settles sc s (decideVote sc s ballot voted v)
   unfolding decideVote
   settles-vote ballot voted v =
-      pick-both Ok (not (eqb (s .ballot) ballot) || (ltb (sc .«bal_max_seen») ballot || (voted && not (s .leader .present)))) (refused refl)
-      (pick-both Ok (voted && ltb (s .leader .«prepare_max_bal») (v .ballot)) (done refl (steady-self sc)) (done refl (steady-self sc)))
+      pick-both Ok (not (awaitsPrepare s ballot)) (done refl (steady-self sc))
+      (pick-both Ok (not (eqb (s .ballot) ballot) || (ltb (sc .«bal_max_seen») ballot || (voted && not (s .leader .present)))) (refused 6 (λ z. omega arith) refl)
+      (pick-both Ok (voted && ltb (s .leader .«prepare_max_bal») (v .ballot)) (done refl (steady-self sc)) (done refl (steady-self sc))))
 
   pub settles-count : (peer ballot : ℕ) → Settles sc s (decideCount sc s peer ballot)
   unfolding decideCount
   settles-count peer ballot =
       pick-both Ok (not (isCounted sc (countedSlot peer s))) (done refl (steady-self sc))
-      (pick-both Ok (ltb ballot (sc .«bal_prepared»)) (refused refl)
+      (pick-both Ok (ltb ballot (sc .«bal_prepared»)) (refused 6 (λ z. omega arith) refl)
       (done refl
       (record {
         id = refl;
@@ -123,12 +126,13 @@ module _ (sc : Scalars) (s : Slot) where
   unfolding decidePromised
   settles-promised slot = pick-both Ok (not (s .replica .present)) (done refl (steady-self sc)) (done refl (steady-self sc))
 
-  pub settles-accepted : (slot : ℕ) → Settles sc s (decideAccepted sc s slot)
+  pub settles-accepted : (slot ballot : ℕ) → Settles sc s (decideAccepted sc s slot ballot)
   unfolding decideAccepted
-  settles-accepted slot =
-      pick-both Ok (leads sc)
+  settles-accepted slot ballot =
+      pick-both Ok (isStale sc s ballot true) (done refl (steady-self sc))
+      (pick-both Ok (leads sc)
       (pick-both Ok (eqb (s .ballot) (sc .«bal_prepared»)) (settles-reply (sc .id) slot (s .ballot)) (done refl (steady-self sc)))
-      (pick-both Ok (not (s .replica .present)) (done refl (steady-self sc)) (done refl (steady-self sc)))
+      (pick-both Ok (not (s .replica .present)) (done refl (steady-self sc)) (done refl (steady-self sc))))
 
   -- an offer is never refused
   pub settles-offer : (slot : ℕ) (b : Batch) → Settles sc s (decideOffer sc slot b)
@@ -142,7 +146,8 @@ module _ (group : ℕ) (sc : Scalars) (s : Slot) (f : fitSlot group s ≡ true) 
 
   pub fit-accept : (peer slot ballot : ℕ) (b : Batch) → b .count ≤ 8 → fitSlot group (decideAccept sc s peer slot ballot b .slot) ≡ true
   unfolding decideAccept
-  fit-accept peer slot ballot b h = pick-both IsFit (ltb ballot (s .ballot)) f (fit-accepted group s f peer ballot b h)
+  fit-accept peer slot ballot b h =
+      pick-both IsFit (namesOther sc s b) f (pick-both IsFit (ltb ballot (s .ballot)) f (fit-accepted group s f (strict sc) peer ballot b h))
 
   pub fit-reply : (peer slot ballot : ℕ) → peer < group → fitSlot group (decideAcceptReply sc s peer slot ballot .slot) ≡ true
   unfolding decideAcceptReply
@@ -156,8 +161,9 @@ module _ (group : ℕ) (sc : Scalars) (s : Slot) (f : fitSlot group s ≡ true) 
   pub fit-vote : (ballot : ℕ) (voted : Bool) (v : Vote) → v .batch .count ≤ 8 → fitSlot group (decideVote sc s ballot voted v .slot) ≡ true
   unfolding decideVote
   fit-vote ballot voted v h =
-      pick-both IsFit (not (eqb (s .ballot) ballot) || (ltb (sc .«bal_max_seen») ballot || (voted && not (s .leader .present)))) f
-      (pick-both IsFit (voted && ltb (s .leader .«prepare_max_bal») (v .ballot)) (fit-adopted group s f v h) f)
+      pick-both IsFit (not (awaitsPrepare s ballot)) f
+      (pick-both IsFit (not (eqb (s .ballot) ballot) || (ltb (sc .«bal_max_seen») ballot || (voted && not (s .leader .present)))) f
+      (pick-both IsFit (voted && ltb (s .leader .«prepare_max_bal») (v .ballot)) (fit-adopted group s f v h) f))
 
   pub fit-count : (peer ballot : ℕ) → peer < group → fitSlot group (decideCount sc s peer ballot .slot) ≡ true
   unfolding decideCount
@@ -169,16 +175,17 @@ module _ (group : ℕ) (sc : Scalars) (s : Slot) (f : fitSlot group s ≡ true) 
   unfolding decidePromised
   fit-promised slot = pick-both IsFit (not (s .replica .present)) f f
 
-  pub fit-logged : (slot : ℕ) → sc .id < group → fitSlot group (decideAccepted sc s slot .slot) ≡ true
+  pub fit-logged : (slot ballot : ℕ) → sc .id < group → fitSlot group (decideAccepted sc s slot ballot .slot) ≡ true
   unfolding decideAccepted
-  fit-logged slot h =
-      pick-both IsFit (leads sc)
+  fit-logged slot ballot h =
+      pick-both IsFit (isStale sc s ballot true) f
+      (pick-both IsFit (leads sc)
       (pick-both IsFit (eqb (s .ballot) (sc .«bal_prepared»)) (fit-reply (sc .id) slot (s .ballot) h) f)
-      (pick-both IsFit (not (s .replica .present)) f f)
+      (pick-both IsFit (not (s .replica .present)) f f))
 
 pub fit-offer : (group : ℕ) (sc : Scalars) (slot : ℕ) (b : Batch) → b .count ≤ 8 → fitSlot group (decideOffer sc slot b .slot) ≡ true
 unfolding decideOffer
-fit-offer group sc slot b h = fit-offered group (sc .«bal_prepared») b h
+fit-offer group sc slot b h = fit-offered group (strict sc) (sc .«bal_prepared») b h
 
 -- a member's bar that falls changes peer_accept_max alone, and that never rises
 pub fallen-is : (sc : Scalars) (b : PeerBars) (m bar : ℕ) → (x : ℕ) × (x ≤ sc .«peer_accept_max») × (withFallen sc b m bar ≡ withPeerMax sc x)
@@ -206,8 +213,9 @@ module _ (sc : Scalars) (s : Slot) where
   pub remains-vote : (ballot : ℕ) (voted : Bool) (v : Vote) → Remains sc (s .status) (decideVote sc s ballot voted v .sc) (decideVote sc s ballot voted v .slot)
   unfolding decideVote
   remains-vote ballot voted v =
-      pick-both Left (not (eqb (s .ballot) ballot) || (ltb (sc .«bal_max_seen») ballot || (voted && not (s .leader .present)))) remains-self
-      (pick-both Left (voted && ltb (s .leader .«prepare_max_bal») (v .ballot)) (record { start = refl; commit = refl; status = refl }) remains-self)
+      pick-both Left (not (awaitsPrepare s ballot)) remains-self
+      (pick-both Left (not (eqb (s .ballot) ballot) || (ltb (sc .«bal_max_seen») ballot || (voted && not (s .leader .present)))) remains-self
+      (pick-both Left (voted && ltb (s .leader .«prepare_max_bal») (v .ballot)) (record { start = refl; commit = refl; status = refl }) remains-self))
 
   pub remains-count : (peer ballot : ℕ) → Remains sc (s .status) (decideCount sc s peer ballot .sc) (decideCount sc s peer ballot .slot)
   unfolding decideCount
@@ -216,7 +224,7 @@ module _ (sc : Scalars) (s : Slot) where
       (pick-both Left (ltb ballot (sc .«bal_prepared»)) remains-self (record { start = refl; commit = refl; status = refl }))
 
 -- s is its slot, t its trigger's, which have one status where they are one
-module _ (sc : Scalars) (s t : Slot) (own : Bool) (peer : ℕ) (m : Reply) (same : own ≡ true → s .status ≡ t .status) where
+module _ (sc : Scalars) (s t : Slot) (own counts : Bool) (peer : ℕ) (m : Reply) (same : own ≡ true → s .status ≡ t .status) where
   pub record WeighedRemains (g : Weighed) : Type 0 where
     pub slot : Remains sc (s .status) (g .sc) (g .slot)
     pub trigger : g .trigger .status ≡ t .status
@@ -224,12 +232,12 @@ module _ (sc : Scalars) (s t : Slot) (own : Bool) (peer : ℕ) (m : Reply) (same
   remains-unmoved : (answer : ℕ) → WeighedRemains (unmoved answer sc s t)
   remains-unmoved answer = record { slot = remains-self sc s; trigger = refl }
 
-  pub weighed-remains : WeighedRemains (weighed sc s t own peer m)
+  pub weighed-remains : WeighedRemains (weighed sc s t own counts peer m)
   unfolding weighed
   weighed-remains =
-      pick-both WeighedRemains (not (awaitsPrepare s (m .ballot))) (remains-unmoved 0)
+      pick-both WeighedRemains (not (goesOn sc s (m .ballot))) (remains-unmoved 0)
       (pick-both WeighedRemains (not (eqb (d .answer) 0)) (remains-unmoved (d .answer))
-      (pick-both WeighedRemains (not (eqb (m .slot) (m .endprep))) (record { slot = voted; trigger = base })
+      (pick-both WeighedRemains (not counts) (record { slot = voted; trigger = base })
       (pick-both WeighedRemains (not (eqb (e .answer) 0)) (remains-unmoved (e .answer))
       (record {
         slot = record { start = counted .start; commit = counted .commit; status = voted .status };

@@ -12,7 +12,7 @@ use Rattle.slots.specs.declared.Slot.{Slot}
 use Rattle.decide.specs.declared.Scalars.{Scalars}
 use Rattle.decide.specs.declared.Decided.{Decided}
 use Rattle.decide.specs.declared.Reply.{Reply}
-use Rattle.decide.specs.Decide.{awaitsPrepare, decideVote, isCounted, decideCount, sentVote}
+use Rattle.decide.specs.Decide.{goesOn, decideVote, isCounted, decideCount, sentVote}
 use Rattle.decide.specs.PrepareReply.{inLog, ownReply}
 use Rattle.decide.specs.Weighing.{unmoved, weighedCount, weighedVote, weighed}
 
@@ -66,31 +66,37 @@ pub own-reply : (sc : Scalars) (s : Slot) (slot : ℕ) (v : Vote) → v ≡ sent
 own-reply sc s slot v e = rw e
 
 -- ── what is weighed ──
-module _ (sc : Scalars) (s t : Slot) (own : Bool) (peer : ℕ) (m : Reply) where
-  pub weigh-outdated : awaitsPrepare s (m .ballot) ≡ false → unmoved 0 sc s t ≡ weighed sc s t own peer m
+module _ (sc : Scalars) (s t : Slot) (own counts : Bool) (peer : ℕ) (m : Reply) where
+  pub weigh-outdated : goesOn sc s (m .ballot) ≡ false → unmoved 0 sc s t ≡ weighed sc s t own counts peer m
   unfolding weighed
   weigh-outdated h = rw h
 
-  module _ (h : awaitsPrepare s (m .ballot) ≡ true) {d : Decided} (v : d ≡ decideVote sc s (m .ballot) (m .voted) (m .vote)) where
-    weigh-vote : weighedVote sc s t own peer m d ≡ weighed sc s t own peer m
+  module _ (h : goesOn sc s (m .ballot) ≡ true) {d : Decided} (v : d ≡ decideVote sc s (m .ballot) (m .voted) (m .vote)) where
+    weigh-vote : weighedVote sc s t own counts peer m d ≡ weighed sc s t own counts peer m
     unfolding weighed
     weigh-vote = rw (h, v)
 
-    pub weigh-refused : (d .answer ≡ 0 → ⊥) → unmoved (d .answer) sc s t ≡ weighed sc s t own peer m
+    pub weigh-refused : (d .answer ≡ 0 → ⊥) → unmoved (d .answer) sc s t ≡ weighed sc s t own counts peer m
     weigh-refused a = rw (ne-eqb (d .answer) 0 a) at weigh-vote
 
     module _ (a : d .answer ≡ 0) {base : Slot} (b : base ≡ pick own (d .slot) t) where
-      pub weigh-more : (m .slot ≡ m .endprep → ⊥)
-          → record { answer = 0; noted = d .noted; enters = false; sc = d .sc; slot = d .slot; trigger = base } ≡ weighed sc s t own peer m
-      weigh-more z = rw b (rw (eq-eqb (d .answer) 0 a, ne-eqb (m .slot) (m .endprep) z) at weigh-vote)
+      pub weigh-more : counts ≡ false
+          → record { answer = 0; noted = d .noted; enters = false; sc = d .sc; slot = d .slot; trigger = base } ≡ weighed sc s t own counts peer m
+      weigh-more z = sym uncounted ∙ weigh-vote
+        where
+          uncounted : weighedVote sc s t own counts peer m d ≡ record { answer = 0; noted = d .noted; enters = false; sc = d .sc; slot = d .slot; trigger = base }
+          uncounted = rw (eq-eqb (d .answer) 0 a, z, b)
 
-      module _ (z : m .slot ≡ m .endprep) {e : Decided} (k : e ≡ decideCount sc base peer (m .ballot)) where
-        weigh-count : weighedCount sc s t d e ≡ weighed sc s t own peer m
-        weigh-count = rw (k, b) (rw (eq-eqb (d .answer) 0 a, eq-eqb (m .slot) (m .endprep) z) at weigh-vote)
+      module _ (z : counts ≡ true) {e : Decided} (k : e ≡ decideCount sc base peer (m .ballot)) where
+        weigh-count : weighedCount sc s t d e ≡ weighed sc s t own counts peer m
+        weigh-count = sym counted ∙ weigh-vote
+          where
+            counted : weighedVote sc s t own counts peer m d ≡ weighedCount sc s t d e
+            counted = rw (eq-eqb (d .answer) 0 a, z, k, b)
 
-        pub weigh-overtaken : (e .answer ≡ 0 → ⊥) → unmoved (e .answer) sc s t ≡ weighed sc s t own peer m
+        pub weigh-overtaken : (e .answer ≡ 0 → ⊥) → unmoved (e .answer) sc s t ≡ weighed sc s t own counts peer m
         weigh-overtaken n = rw (ne-eqb (e .answer) 0 n) at weigh-count
 
         pub weigh-counted : {enters : Bool} → e .answer ≡ 0 → enters ≡ isCounted (e .sc) (e .slot)
-            → record { answer = 0; noted = d .noted; enters = enters; sc = e .sc; slot = d .slot; trigger = e .slot } ≡ weighed sc s t own peer m
+            → record { answer = 0; noted = d .noted; enters = enters; sc = e .sc; slot = d .slot; trigger = e .slot } ≡ weighed sc s t own counts peer m
         weigh-counted n q = rw q (rw (eq-eqb (e .answer) 0 n) at weigh-count)

@@ -34,9 +34,13 @@ urgent sc = eqb (sc .options % 2) 1
 abbrev pub disallowed : Scalars → Bool
 disallowed sc = eqb (sc .options / 2 % 2) 1
 
+-- 02, Wish 6: "a strict kind of replica, chosen when it is made (trace: 4 more in trigger); the base kind stays"
+abbrev pub strict : Scalars → Bool
+strict sc = eqb (sc .options / 4 % 2) 1
+
 -- 10: "new replica with numbers outside the above"
 abbrev pub mayBe : ℕ → ℕ → ℕ → ℕ → Bool
-mayBe id group start options = groupSize group && (ltb id group && (leb start 4294967296 && leb options 3))
+mayBe id group start options = groupSize group && (ltb id group && (leb start 4294967296 && leb options 7))
 
 -- 1, the numbers, for a log of so many slots: "bad group size or id, start above 2^32, a count above its table's size, a .. leader outside the
 -- group, not start <= exec_bar <= commit_bar <= log end, or accept_bar below start or above the log end"
@@ -72,6 +76,7 @@ withBallots sc new =
       «exec_bar» = sc .«exec_bar»;
       «wal_offset» = sc .«wal_offset»;
       «peer_accept_max» = sc .«peer_accept_max»;
+      «lead_trigger» = sc .«lead_trigger»;
     }
 
 abbrev pub withNumbers : Scalars → record { «accept_bar» : ℕ; «commit_bar» : ℕ; «exec_bar» : ℕ; «wal_offset» : ℕ; «peer_accept_max» : ℕ } → Scalars
@@ -90,6 +95,7 @@ withNumbers sc new =
       «exec_bar» = new .«exec_bar»;
       «wal_offset» = new .«wal_offset»;
       «peer_accept_max» = new .«peer_accept_max»;
+      «lead_trigger» = sc .«lead_trigger»;
     }
 
 -- check_leader: the believed leader and the largest ballot seen, whatever it was; `followed` "acts only on a larger ballot"
@@ -131,7 +137,27 @@ abbrev pub withPeerMax : Scalars → ℕ → Scalars
 withPeerMax sc bar =
     withNumbers sc (record { «accept_bar» = sc .«accept_bar»; «commit_bar» = sc .«commit_bar»; «exec_bar» = sc .«exec_bar»; «wal_offset» = sc .«wal_offset»; «peer_accept_max» = bar })
 
+-- the trigger of the lead: 02, Wish 6, (c) tells a reply of this lead by it, also where the trigger slot was committed since
+abbrev pub withTrigger : Scalars → ℕ → Scalars
+withTrigger sc trigger =
+    record {
+      id = sc .id;
+      group = sc .group;
+      start = sc .start;
+      options = sc .options;
+      leader = sc .leader;
+      «bal_prep_sent» = sc .«bal_prep_sent»;
+      «bal_prepared» = sc .«bal_prepared»;
+      «bal_max_seen» = sc .«bal_max_seen»;
+      «accept_bar» = sc .«accept_bar»;
+      «commit_bar» = sc .«commit_bar»;
+      «exec_bar» = sc .«exec_bar»;
+      «wal_offset» = sc .«wal_offset»;
+      «peer_accept_max» = sc .«peer_accept_max»;
+      «lead_trigger» = trigger;
+    }
+
 -- become_a_leader: self leads at a ballot of its own that is not prepared yet, and knows no member's accept bar
-abbrev pub steppedUp : Scalars → ℕ → Scalars
-steppedUp sc ballot =
-    withPeerMax (withBallots sc (record { leader = sc .id; «bal_prep_sent» = ballot; «bal_prepared» = 0; «bal_max_seen» = ballot })) unknownBar
+abbrev pub steppedUp : Scalars → ℕ → ℕ → Scalars
+steppedUp sc trigger ballot =
+    withTrigger (withPeerMax (withBallots sc (record { leader = sc .id; «bal_prep_sent» = ballot; «bal_prepared» = 0; «bal_max_seen» = ballot })) unknownBar) trigger

@@ -16,9 +16,9 @@ use Rattle.slots.specs.declared.Vote.{Vote}
 use Rattle.slots.specs.declared.Slot.{Slot}
 use Rattle.slots.specs.Slots.{adoptedSlot, countedSlot, acceptedSlot, acknowledgedSlot, committedSlot, offeredSlot}
 use Rattle.decide.specs.declared.Scalars.{Scalars}
-use Rattle.decide.specs.Scalars.{quorum, followed, stepsDown, withPrepared}
-use Rattle.decide.specs.Decide.{silent, proposal, decideAccept, awaitsAccept, decideAcceptReply, decideVote}
-use Rattle.decide.specs.Decide.{isCounted, decideCount, sentVote, decidePromised, decideAccepted, decideOffer}
+use Rattle.decide.specs.Scalars.{quorum, strict, followed, stepsDown, withPrepared}
+use Rattle.decide.specs.Decide.{silent, proposal, namesOther, decideAccept, awaitsAccept, decideAcceptReply, awaitsPrepare, decideVote}
+use Rattle.decide.specs.Decide.{isCounted, decideCount, sentVote, decidePromised, isStale, decideAccepted, decideOffer}
 
 -- what a call told of a test, and how the test came out
 pub flag : {r t b : Bool} → r ≡ t → r ≡ b → t ≡ b
@@ -31,16 +31,20 @@ contradicted sc s ballot booked =
 
 -- ── Accept ──
 module _ (sc : Scalars) (s : Slot) (peer slot ballot : ℕ) (b : Batch) where
-  pub accept-high : ballot < s .ballot → decideAccept sc s peer slot ballot b ≡ silent 6 sc s
+  pub accept-other : namesOther sc s b ≡ true → decideAccept sc s peer slot ballot b ≡ silent 15 sc s
   unfolding decideAccept
-  accept-high h = rw (lt-ltb ballot (s .ballot) h)
+  accept-other n = rw n
 
-  pub accept-taken : (sc′ : Scalars) (s′ : Slot) (p : Proposal) (says : Says) → s .ballot ≤ ballot
-      → sc′ ≡ followed sc peer ballot → s′ ≡ acceptedSlot peer ballot b s → p ≡ proposal slot ballot b
+  pub accept-high : namesOther sc s b ≡ false → ballot < s .ballot → decideAccept sc s peer slot ballot b ≡ silent 6 sc s
+  unfolding decideAccept
+  accept-high n h = rw (n, lt-ltb ballot (s .ballot) h)
+
+  pub accept-taken : (sc′ : Scalars) (s′ : Slot) (p : Proposal) (says : Says) (kind : Bool) → namesOther sc s b ≡ false → s .ballot ≤ ballot → kind ≡ strict sc
+      → sc′ ≡ followed sc peer ballot → s′ ≡ acceptedSlot kind peer ballot b s → p ≡ proposal slot ballot b
       → says ≡ pick (stepsDown sc ballot) (Two StatusDown (AcceptData p)) (One (AcceptData p))
       → decideAccept sc s peer slot ballot b ≡ record { answer = 0; noted = true; sc = sc′; slot = s′; says = says; keys = b .keys }
   unfolding decideAccept
-  accept-taken sc′ s′ p says h e f g k = rw (le-ltb ballot (s .ballot) h, e, f, k, g)
+  accept-taken sc′ s′ p says kind n h q e f g k = rw (n, le-ltb ballot (s .ballot) h, e, f, k, g, q)
 
 -- ── AcceptReply ──
 module _ (sc : Scalars) (s : Slot) (peer slot ballot : ℕ) where
@@ -74,23 +78,27 @@ module _ (sc : Scalars) (s : Slot) (peer slot ballot : ℕ) where
 
 -- ── PrepareReply: the vote ──
 module _ (sc : Scalars) (s : Slot) (ballot : ℕ) (voted : Bool) (v : Vote) where
-  pub vote-broken : contradicted sc s ballot voted ≡ true → decideVote sc s ballot voted v ≡ silent 6 sc s
-  unfolding decideVote contradicted
-  vote-broken k = rw k
+  pub vote-idle : awaitsPrepare s ballot ≡ false → decideVote sc s ballot voted v ≡ silent 0 sc s
+  unfolding decideVote
+  vote-idle a = rw a
 
-  module _ (k : contradicted sc s ballot voted ≡ false) where
+  pub vote-broken : awaitsPrepare s ballot ≡ true → contradicted sc s ballot voted ≡ true → decideVote sc s ballot voted v ≡ silent 6 sc s
+  unfolding decideVote contradicted
+  vote-broken a k = rw (a, k)
+
+  module _ (a : awaitsPrepare s ballot ≡ true) (k : contradicted sc s ballot voted ≡ false) where
     pub vote-none : voted ≡ false → decideVote sc s ballot voted v ≡ silent 0 sc s
     unfolding decideVote contradicted
-    vote-none e = rw (k, e)
+    vote-none e = rw (a, k, e)
 
     pub vote-low : v .ballot ≤ s .leader .«prepare_max_bal» → decideVote sc s ballot voted v ≡ silent 0 sc s
     unfolding decideVote contradicted
-    vote-low h = rw (k, le-ltb _ _ h, and-false voted)
+    vote-low h = rw (a, k, le-ltb _ _ h, and-false voted)
 
     pub vote-taken : (s′ : Slot) → voted ≡ true → s .leader .«prepare_max_bal» < v .ballot → s′ ≡ adoptedSlot v s
         → decideVote sc s ballot voted v ≡ record { answer = 0; noted = true; sc = sc; slot = s′; says = Nothing; keys = noKeys }
     unfolding decideVote contradicted
-    vote-taken s′ e h f = rw (k, e, lt-ltb _ _ h, f)
+    vote-taken s′ e h f = rw (a, k, e, lt-ltb _ _ h, f)
 
 -- ── PrepareReply: the count ──
 module _ (sc : Scalars) (t : Slot) (peer ballot : ℕ) (t′ : Slot) (e : t′ ≡ countedSlot peer t) where
@@ -140,21 +148,25 @@ module _ (sc : Scalars) (s : Slot) (slot : ℕ) where
   promised-said v e f = rw (e, f)
 
 -- ── a logged AcceptData ──
-module _ (sc : Scalars) (s : Slot) (slot : ℕ) where
-  pub accepted-own : sc .leader ≡ sc .id → s .ballot ≡ sc .«bal_prepared» → decideAccepted sc s slot ≡ decideAcceptReply sc s (sc .id) slot (s .ballot)
+module _ (sc : Scalars) (s : Slot) (slot ballot : ℕ) where
+  pub accepted-stale : isStale sc s ballot true ≡ true → decideAccepted sc s slot ballot ≡ silent 0 sc s
   unfolding decideAccepted
-  accepted-own l e = rw (eq-eqb _ _ l, eq-eqb _ _ e)
+  accepted-stale a = rw a
 
-  pub accepted-old : sc .leader ≡ sc .id → (s .ballot ≡ sc .«bal_prepared» → ⊥) → decideAccepted sc s slot ≡ silent 0 sc s
+  pub accepted-own : isStale sc s ballot true ≡ false → sc .leader ≡ sc .id → s .ballot ≡ sc .«bal_prepared» → decideAccepted sc s slot ballot ≡ decideAcceptReply sc s (sc .id) slot (s .ballot)
   unfolding decideAccepted
-  accepted-old l n = rw (eq-eqb _ _ l, ne-eqb _ _ n)
+  accepted-own a l e = rw (a, eq-eqb _ _ l, eq-eqb _ _ e)
 
-  pub accepted-none : (sc .leader ≡ sc .id → ⊥) → s .replica .present ≡ false → decideAccepted sc s slot ≡ silent 0 sc s
+  pub accepted-old : isStale sc s ballot true ≡ false → sc .leader ≡ sc .id → (s .ballot ≡ sc .«bal_prepared» → ⊥) → decideAccepted sc s slot ballot ≡ silent 0 sc s
   unfolding decideAccepted
-  accepted-none l e = rw (ne-eqb _ _ l, e)
+  accepted-old a l n = rw (a, eq-eqb _ _ l, ne-eqb _ _ n)
 
-  pub accepted-said : (sc .leader ≡ sc .id → ⊥) → s .replica .present ≡ true
-      → decideAccepted sc s slot
+  pub accepted-none : isStale sc s ballot true ≡ false → (sc .leader ≡ sc .id → ⊥) → s .replica .present ≡ false → decideAccepted sc s slot ballot ≡ silent 0 sc s
+  unfolding decideAccepted
+  accepted-none a l e = rw (a, ne-eqb _ _ l, e)
+
+  pub accepted-said : isStale sc s ballot true ≡ false → (sc .leader ≡ sc .id → ⊥) → s .replica .present ≡ true
+      → decideAccepted sc s slot ballot
       ≡ record {
         answer = 0;
         noted = false;
@@ -164,11 +176,11 @@ module _ (sc : Scalars) (s : Slot) (slot : ℕ) where
         keys = noKeys;
       }
   unfolding decideAccepted
-  accepted-said l e = rw (ne-eqb _ _ l, e)
+  accepted-said a l e = rw (a, ne-eqb _ _ l, e)
 
 -- ── an offer ──
-pub offer-said : (sc : Scalars) (slot : ℕ) (b : Batch) (s : Slot) (p : Proposal)
-    → s ≡ offeredSlot (sc .«bal_prepared») b → p ≡ proposal slot (sc .«bal_prepared») b
+pub offer-said : (sc : Scalars) (slot : ℕ) (b : Batch) (s : Slot) (p : Proposal) (kind : Bool) → kind ≡ strict sc
+    → s ≡ offeredSlot kind (sc .«bal_prepared») b → p ≡ proposal slot (sc .«bal_prepared») b
     → decideOffer sc slot b ≡ record { answer = 0; noted = true; sc = sc; slot = s; says = Two (AcceptData p) (Accept p); keys = b .keys }
 unfolding decideOffer
-offer-said sc slot b s p e f = rw (e, f)
+offer-said sc slot b s p kind q e f = rw (e, f, q)

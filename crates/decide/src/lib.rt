@@ -13,7 +13,8 @@ pub use prepare_reply::bad_vote;
 use slots::Slot;
 use slots::Vote;
 
-// The replica's numbers. options: 1 urgent commit notice + 2 step-up disallowed; leader: 255 = none.
+// The replica's numbers. options: 1 urgent commit notice + 2 step-up disallowed + 4 strict; leader: 255 = none;
+// lead_trigger: the trigger slot of the last step-up.
 pub struct Scalars {
     pub id: u64,
     pub group: u64,
@@ -28,6 +29,7 @@ pub struct Scalars {
     pub exec_bar: u64,
     pub wal_offset: u64,
     pub peer_accept_max: u64,
+    pub lead_trigger: u64,
 }
 
 // The peer accept table: a bar for each member, and whether self has its entry yet.

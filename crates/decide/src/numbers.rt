@@ -2,7 +2,7 @@
 ghost use mathlib.Core.Path.{_≡_};
 ghost use mathlib.Core.Bool.{_||_};
 ghost use lib.Dec.{ltb, eqb};
-ghost use Rattle.decide.specs.Scalars.{leads, isMember, isPeer, quorum, urgent, disallowed, mayBe, fitScalars, ignoresTimeout, notifies};
+ghost use Rattle.decide.specs.Scalars.{leads, isMember, isPeer, quorum, urgent, disallowed, strict, mayBe, fitScalars, ignoresTimeout, notifies};
 ghost use Rattle.decide.specs.Scalars.{followed, stepsDown, withPrepared, withBars, withLogSize, withPeerMax, steppedUp};
 use crate::Scalars;
 
@@ -25,7 +25,7 @@ pub fn may_be(id: u64, group: u64, start: u64, options: u64) -> bool
     if 4294967296 < start {
         return false;
     }
-    options <= 3
+    options <= 7
 }
 
 // Whether the leader is nobody or a member.
@@ -78,6 +78,13 @@ impl Scalars {
         ensures { λ r. ⌜ r ≡ disallowed self ⌝ }
     {
         self.options / 2 % 2 == 1
+    }
+
+    // Whether the replica is of the strict kind.
+    pub fn strict(self) -> bool
+        ensures { λ r. ⌜ r ≡ strict self ⌝ }
+    {
+        self.options / 4 % 2 == 1
     }
 
     // Whether the numbers are fit for a log of so many slots.
@@ -199,9 +206,10 @@ impl Scalars {
     }
 
     // Self leads at a ballot of its own that is not prepared yet, and knows no member's accept bar.
-    pub fn stepped_up(mut self, ballot: u64) -> Scalars
-        ensures { λ r. ⌜ r ≡ steppedUp self ballot ⌝ }
+    pub fn stepped_up(mut self, trigger: u64, ballot: u64) -> Scalars
+        ensures { λ r. ⌜ r ≡ steppedUp self trigger ballot ⌝ }
     {
+        self.lead_trigger = trigger;
         self.leader = self.id;
         self.bal_prep_sent = ballot;
         self.bal_prepared = 0;

@@ -6,7 +6,6 @@ ghost use Rattle.decide.specs.Weighing.{badVote, unmoved, weighed};
 use crate::Reply;
 use crate::Scalars;
 use crate::Weighed;
-use crate::replies::awaits_prepare;
 use crate::replies::sent_vote;
 use batch::Batch;
 use slots::Slot;
@@ -101,11 +100,11 @@ impl Scalars {
         }
     }
 
-    // What a PrepareReply decides from the scalars, its slot and its trigger's (the same slot where `own` is true).
-    pub fn weigh(self, s: Slot, t: Slot, own: bool, peer: u64, m: Reply) -> Weighed
-        ensures { λ r. ⌜ r ≡ weighed self s t own peer m ⌝ }
+    // What a PrepareReply decides from the scalars, its slot and its trigger's (the same slot where `own` is true), and whether its member counts.
+    pub fn weigh(self, s: Slot, t: Slot, own: bool, counts: bool, peer: u64, m: Reply) -> Weighed
+        ensures { λ r. ⌜ r ≡ weighed self s t own counts peer m ⌝ }
     {
-        if !awaits_prepare(s, m.ballot) {
+        if !self.goes_on(s, m.ballot) {
             return self.unmoved(0, s, t);
         }
         let vote = m.vote;
@@ -115,7 +114,7 @@ impl Scalars {
         }
         let next = v.slot;
         let base = chosen_slot(own, next, t);
-        if m.slot != m.endprep {
+        if !counts {
             let same = v.sc;
             return Weighed {
                 answer: 0,

@@ -2,8 +2,8 @@
 ghost use mathlib.Core.Path.{_≡_};
 ghost use Rattle.base.specs.Pick.{pick};
 ghost use Rattle.decide.specs.Scalars.{stepsDown};
-ghost use Rattle.decide.specs.Decide.{silent, proposal, decideAccept, awaitsAccept, decideAcceptReply, awaitsPrepare, decideVote};
-ghost use Rattle.decide.specs.Decide.{isCounted, decideCount, sentVote, decidePromised, decideAccepted, mayOffer, decideOffer};
+ghost use Rattle.decide.specs.Decide.{silent, proposal, namesOther, decideAccept, awaitsAccept, decideAcceptReply, awaitsPrepare, goesOn, decideVote};
+ghost use Rattle.decide.specs.Decide.{isCounted, decideCount, sentVote, decidePromised, isStale, decideAccepted, mayOffer, decideOffer};
 ghost use Rattle.decide.specs.Ways.{contradicted};
 use crate::Decided;
 use crate::Scalars;
@@ -15,6 +15,7 @@ use actions::Proposal;
 use actions::Says;
 use batch::Batch;
 use slots::ACCEPTING;
+use slots::COMMITTED;
 use slots::PREPARING;
 use slots::Slot;
 use slots::Vote;
@@ -93,16 +94,33 @@ impl Scalars {
         !s.leader.present
     }
 
+    // Whether an Accept names another batch for a strict replica's committed slot.
+    fn names_other(self, s: Slot, b: Batch) -> bool
+        ensures { λ r. ⌜ r ≡ namesOther self s b ⌝ }
+    {
+        if !self.strict() {
+            return false;
+        }
+        if s.status < COMMITTED {
+            return false;
+        }
+        let held = s.batch;
+        !batch::same(held, b)
+    }
+
     // An Accept whose ballot is not smaller than what was seen.
     pub fn decide_accept(self, s: Slot, peer: u64, slot: u64, ballot: u64, b: Batch) -> Decided
         ensures { λ r. ⌜ r ≡ decideAccept self s peer slot ballot b ⌝ }
     {
+        if self.names_other(s, b) {
+            return self.silent(15, s);
+        }
         if ballot < s.ballot {
             return self.silent(6, s);
         }
         let says = self.reported(ballot, Action::AcceptData(proposal(slot, ballot, b)));
         let after = self.followed(peer, ballot);
-        let taken = s.accepted(peer, ballot, b);
+        let taken = s.accepted(self.strict(), peer, ballot, b);
         let keys = b.keys;
         Decided {
             answer: 0,
@@ -162,6 +180,9 @@ impl Scalars {
     pub(crate) fn decide_vote(self, s: Slot, ballot: u64, voted: bool, v: Vote) -> Decided
         ensures { λ r. ⌜ r ≡ decideVote self s ballot voted v ⌝ }
     {
+        if !awaits_prepare(s, ballot) {
+            return self.silent(0, s);
+        }
         if self.contradicts(s, ballot, voted) {
             return self.silent(6, s);
         }
@@ -180,6 +201,16 @@ impl Scalars {
             says: Says::Nothing,
             keys: [0; 8],
         }
+    }
+
+    // Whether a PrepareReply is awaited, or its member may count all the same.
+    pub(crate) fn goes_on(self, s: Slot, ballot: u64) -> bool
+        ensures { λ r. ⌜ r ≡ goesOn self s ballot ⌝ }
+    {
+        if self.strict() {
+            return true;
+        }
+        awaits_prepare(s, ballot)
     }
 
     // Whether a quorum of members is counted at the trigger slot.
@@ -233,10 +264,29 @@ impl Scalars {
         }
     }
 
-    // An AcceptData is logged: a leader's own reply, or an AcceptReply to the source.
-    pub fn decide_accepted(self, s: Slot, slot: u64) -> Decided
-        ensures { λ r. ⌜ r ≡ decideAccepted self s slot ⌝ }
+    // Whether a strict replica is silent on a completion: its ballot is not the slot's, or for an accept entry not the vote's.
+    pub fn is_stale(self, s: Slot, ballot: u64, of_accept: bool) -> bool
+        ensures { λ r. ⌜ r ≡ isStale self s ballot «of_accept» ⌝ }
     {
+        if !self.strict() {
+            return false;
+        }
+        if s.ballot != ballot {
+            return true;
+        }
+        if !of_accept {
+            return false;
+        }
+        s.vote.ballot != ballot
+    }
+
+    // An AcceptData is logged: a leader's own reply, or an AcceptReply to the source.
+    pub fn decide_accepted(self, s: Slot, slot: u64, ballot: u64) -> Decided
+        ensures { λ r. ⌜ r ≡ decideAccepted self s slot ballot ⌝ }
+    {
+        if self.is_stale(s, ballot, true) {
+            return self.silent(0, s);
+        }
         if self.leader == self.id {
             if s.ballot == self.bal_prepared {
                 return self.decide_accept_reply(s, self.id, slot, s.ballot);
@@ -277,7 +327,7 @@ impl Scalars {
     pub fn decide_offer(self, slot: u64, b: Batch) -> Decided
         ensures { λ r. ⌜ r ≡ decideOffer self slot b ⌝ }
     {
-        let taken = slots::offered_slot(self.bal_prepared, b);
+        let taken = slots::offered_slot(self.strict(), self.bal_prepared, b);
         let said = proposal(slot, self.bal_prepared, b);
         let keys = b.keys;
         Decided {

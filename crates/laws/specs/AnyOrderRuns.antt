@@ -28,7 +28,7 @@ use Rattle.replica.specs.Record.{newReplica}
 use Rattle.replica.specs.Fit.{fit}
 use Rattle.replica.specs.Quorumread.{openReadStep, repliedStep, readReplyStep}
 use Rattle.replica.specs.Step.{Call, callPrepare, callOpenRead, callReadReply, step}
-use Rattle.replica.specs.Cases.{openReads, Run, run, rightRuns, rightRun, rightTurn, asked, told, fresh, held, answers, ofOne, withValue}
+use Rattle.replica.specs.Cases.{openReads, look, Run, run, rightRuns, rightRun, rightTurn, asked, told, fresh, held, answers, ofOne, withValue}
 use Rattle.laws.specs.OpenReads.{waiting-new, waiting-stays}
 use Rattle.laws.specs.AnyOrder.{readOf, ReadOpen, AgreeingReplies, acknowledgedWith, memberReply, replied, repliedActs, repliedAnswers, SameEnd, Aside, CallsBetween, no-more, aside, from-member}
 use Rattle.laws.specs.InARow.{replies-within, in-any-order}
@@ -126,7 +126,7 @@ limits =
     ∷ run 2 5 (asked ∷ told 0 (ofOne (withValue 7 9)) 0 (held 1 2 7 9) [] ∷ told 0 (ofOne (SlotAlone 7)) 0 (held 1 2 7 9) [] ∷ [])
     ∷ []
 
-pub limits-hold : T (rightRuns limits)
+pub limits-hold : T (rightRuns look limits)
 unfolding limits rightRuns rightRun rightTurn newReplica fit fitScalars fitSlots fitSlot fitReads openReadStep repliedStep readReplyStep findRead openRead closeRead putRead replyTo merge scan has insert count countIn firstOpen
 limits-hold = tt
 

@@ -1,11 +1,20 @@
 -- 02, Wish 5: "The base replica still ignores it: two runs whose completions differ only in that field agree in state, answers and actions." Here
 -- of one call, on any record and with any room; over runs in voting (Ignored), over a group's worlds in agreement (Ignored).
-use mathlib.Core.Path.{_≡_, refl}
+use mathlib.Core.Path.{_≡_, refl, ap}
+use mathlib.Core.Bool.{false, not}
 use Prim.Native.Nat.{ℕ}
+use lib.Dec.{ltb, leb}
+use Rattle.base.specs.Pick.{pick}
+use Rattle.decide.specs.Scalars.{strict}
+use Rattle.decide.specs.Decide.{decideAccepted}
 use Rattle.replica.specs.declared.Replica.{Replica}
 use Rattle.replica.specs.declared.Entry.{Entry}
+use Rattle.replica.specs.declared.Entry.the-variants.{PrepareBal, AcceptData, CommitSlot}
 use Rattle.replica.specs.declared.Done.{Done}
-use Rattle.replica.specs.Durability.{loggedStep}
+use Rattle.replica.specs.Record.{Outcome, kept, summed, place, logEnd}
+use Rattle.replica.specs.Fit.{ready, unready}
+use Rattle.replica.specs.Messages.{orKept}
+use Rattle.replica.specs.Durability.{preparedDone, acceptedDone, doneOn, loggedOn, loggedStep}
 use Rattle.replica.specs.Step.{Call, callPrepare, callPrepareReply, callAccept, callAcceptReply, callCommitNotice, callTimeout, callLogged, callOffer, callExecuted, callOpenRead, callReadReply, step}
 use Rattle.laws.specs.WaysDurability.{completion}
 
@@ -14,11 +23,26 @@ pub data Alike : Call → Call → Type 0 where
   same-call : (c : Call) → Alike c c
   same-entry : (entry : Entry) (slot ballot ballot′ size : ℕ) → Alike (callLogged (completion entry slot ballot size)) (callLogged (completion entry slot ballot′ size))
 
+-- in the base kind no completion is stale, so that its ballot is read nowhere
+module _ (r : Replica) (i slot ballot ballot′ : ℕ) (k : strict (r .sc) ≡ false) where
+  done-alike : (e : Entry) → doneOn r i slot ballot e ≡ doneOn r i slot ballot′ e
+  unfolding preparedDone acceptedDone decideAccepted
+  done-alike PrepareBal = rw k
+  done-alike AcceptData = rw k
+  done-alike CommitSlot = refl
+
+completes-alike : (r : Replica) (room : ℕ) (entry : Entry) (slot ballot ballot′ size : ℕ) → strict (r .sc) ≡ false
+    → loggedStep r room (completion entry slot ballot size) ≡ loggedStep r room (completion entry slot ballot′ size)
+unfolding loggedStep loggedOn
+completes-alike r room entry slot ballot ballot′ size k =
+    let r′ = loggedOn r (place (r .sc) slot) size in
+    ap (λ (o : Outcome). pick (not (ready r room)) (kept (unready r room) r) (pick (ltb slot (r .sc .start)) (kept 0 r) (pick (leb (logEnd r) slot) (kept 4 r) (pick (ltb size (r .sc .«wal_offset»)) (kept 6 r) (orKept r o)))))
+    (done-alike r′ (place (r .sc) slot) slot ballot ballot′ k entry)
+
 -- THE THEOREM, of one call: one outcome, that is answer, replica and actions
-pub ballot-ignored : (r : Replica) (room : ℕ) (c c′ : Call) → Alike c c′ → step r room c ≡ step r room c′
-unfolding loggedStep
-ballot-ignored r room _ _ (same-call c) = refl
-ballot-ignored r room _ _ (same-entry entry slot ballot ballot′ size) = refl
+pub ballot-ignored : (r : Replica) (room : ℕ) (c c′ : Call) → strict (r .sc) ≡ false → Alike c c′ → step r room c ≡ step r room c′
+ballot-ignored r room _ _ k (same-call c) = refl
+ballot-ignored r room _ _ k (same-entry entry slot ballot ballot′ size) = ap summed (completes-alike r room entry slot ballot ballot′ size k)
 
 -- ── any call with any ballot in its place, if it is a completion, is alike ──
 module _ (f : Done → ℕ) where

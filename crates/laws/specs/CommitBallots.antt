@@ -73,13 +73,13 @@ module _ (r : Replica) (room slot bal size : ℕ) (lead : leads (r .sc) ≡ true
   abbrev counted : Replica
   counted = logged r (completion AcceptData slot bal size)
 
-  completed-own : slot - r .sc .start < counted .window .len → (after : Replica) (acts : List Act) → Completes counted (place (r .sc) slot) slot after acts
+  completed-own : slot - r .sc .start < counted .window .len → (after : Replica) (acts : List Act) → Completes counted (place (r .sc) slot) slot bal after acts
       → AllOwn (done after acts)
   unfolding loggedOn
   completed-own h _ _ completes-silent = tt
-  completed-own h _ _ (completes-more _ _ _) = tt
-  completed-own h _ _ (completes-commit _ _ _) = (put-own (r .sc .start) slot (counted .window) _ refl h, tt)
-  completed-own h _ _ (completes-report n _) = absurd (clash lead n)
+  completed-own h _ _ (completes-more _ _ _ _) = tt
+  completed-own h _ _ (completes-commit _ _ _ _) = (put-own (r .sc .start) slot (counted .window) _ refl h, tt)
+  completed-own h _ _ (completes-report _ n _) = absurd (clash lead n)
 
   pub entry-own : AllOwn (step r room (callLogged (completion AcceptData slot bal size)))
   unfolding loggedOn

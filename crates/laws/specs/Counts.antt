@@ -20,7 +20,7 @@ use Rattle.slots.specs.declared.Slot.{Slot}
 use Rattle.slots.specs.Slots.{enteredSlot, nullSlot}
 use Rattle.decide.specs.declared.Scalars.{Scalars}
 use Rattle.decide.specs.declared.Reply.{Reply}
-use Rattle.decide.specs.Scalars.{leads, urgent, stepsDown}
+use Rattle.decide.specs.Scalars.{leads, urgent, strict, stepsDown}
 use Rattle.window.specs.declared.Window.{Window}
 use Rattle.window.specs.Window.{slotAt, firstOpen, mayMark, markStop}
 use Rattle.window.specs.Acts.{promise, enterActs, redoActs, markActs, passActs}
@@ -35,7 +35,7 @@ use Rattle.laws.specs.OfFit.{FitNumbers, fit-facts}
 use Rattle.laws.specs.OfDecide.{reports}
 use Rattle.laws.specs.Leaves.{done, put-back}
 use Rattle.laws.specs.WaysMessages.{KeepsLow, Prepares, prepareWindow, prepareEnd}
-use Rattle.laws.specs.WaysReply.{replyWindow, heardWindow, countedWindow, tabledSc, replyOn-ways, reply-place}
+use Rattle.laws.specs.WaysReply.{grownWindow, replyWindow, heardWindow, countedWindow, tabledSc, replyOn-ways, reply-place}
 use Rattle.laws.specs.WaysLeadership.{Leads, leadWindow, leadFrom, markEnd, markFrom, markWindow}
 use Rattle.laws.specs.WaysDurability.{logged, withSlot, Completes, completes-silent, completes-more, completes-commit, completes-report, moved-ways, passFrom}
 use Rattle.laws.specs.WaysAdded.{readAt, readPlace, Asked}
@@ -91,11 +91,14 @@ append-few r i = length-gather (λ k. promise (number (r .sc) k) (r .sc .«bal_p
 
 -- the list behind the window stays as long
 module _ (r : Replica) (peer : ℕ) (m : Reply) where
-  pub heard-long : size (heardWindow r m) ≡ size (r .window)
-  heard-long = put-long (replyWindow r m) (place (r .sc) (m .slot)) _ ∙ appended-long r (place (r .sc) (m .slot)) (place (r .sc) (m .trigger))
+  pub noted-long : size (replyWindow r peer m) ≡ size (r .window)
+  noted-long = put-long (grownWindow r m) (place (r .sc) (m .slot)) _ ∙ appended-long r (place (r .sc) (m .slot)) (place (r .sc) (m .trigger))
+
+  pub heard-long : size (heardWindow r peer m) ≡ size (r .window)
+  heard-long = put-long (replyWindow r peer m) (place (r .sc) (m .slot)) _ ∙ noted-long
 
   pub counted-long : size (countedWindow r peer m) ≡ size (r .window)
-  counted-long = put-long (heardWindow r m) (place (r .sc) (m .trigger)) _ ∙ heard-long
+  counted-long = put-long (heardWindow r peer m) (place (r .sc) (m .trigger)) _ ∙ heard-long
 
 -- a PrepareReply that acts, whatever the outcome is wrapped in
 module _ (P : Outcome → Type 0) (r : Replica) (peer : ℕ) (m : Reply) (room : r .window .len ≤ 64) where
@@ -106,7 +109,7 @@ module _ (P : Outcome → Type 0) (r : Replica) (peer : ℕ) (m : Reply) (room :
       let j : ℕ = place (r .sc) (m .trigger) in
       let fixed = fallen-fixed (r .sc) (r .bars) peer (m .bar) in
       replyOn-ways P r peer m (λ a h z. k a h)
-      (λ f a. on _ _ (omega (arith, reply-place r m f, append-few r i)) fixed (appended-long r i j))
+      (λ f a. on _ _ (omega (arith, reply-place r m f, append-few r i)) fixed (noted-long r peer m))
       (λ f h e. on _ _ (omega (arith, reply-place r m f, append-few r i)) fixed (heard-long r peer m))
       (λ f h e q. on _ _ (omega (arith, reply-place r m f, append-few r i)) fixed (counted-long r peer m))
       (λ f h e q b.
@@ -120,11 +123,11 @@ module _ (P : Outcome → Type 0) (r : Replica) (peer : ℕ) (m : Reply) (room :
         f .logged,
         append-few r i,
         appended-most r i j 64 room (reply-place r m f),
-        length-append (appendActs r i) (gather g j (replyWindow r m .len)),
-        length-gather-two g (λ k. enter-few (number (tabledSc r peer m) k) (m .ballot) (slotAt (countedWindow r peer m) k)) j (replyWindow r m .len),
+        length-append (appendActs r i) (gather g j (replyWindow r peer m .len)),
+        length-gather-two g (λ k. enter-few (number (tabledSc r peer m) k) (m .ballot) (slotAt (countedWindow r peer m) k)) j (replyWindow r peer m .len),
       ))
       (fixed-then _ _ _ fixed (record { id = refl; group = refl; start = refl; options = refl }))
-      (sweep-long (λ i s. enteredSlot s) j (replyWindow r m .len) (countedWindow r peer m) ∙ counted-long r peer m))
+      (sweep-long (λ i s. enteredSlot (strict (tabledSc r peer m)) (m .ballot) s) j (replyWindow r peer m .len) (countedWindow r peer m) ∙ counted-long r peer m))
 
 -- ── a timeout, a CommitNotice ──
 pub led-few : (r : Replica) (source ballot : ℕ) (a b c : Act) → Leads r source ballot
@@ -151,13 +154,13 @@ pub moved-window : (r : Replica) (slot : ℕ) → movedAccept r slot .window ≡
 moved-window r slot = moved-ways (λ (x : Replica). x .window ≡ r .window) r slot refl (λ bar. refl)
 
 -- what an AcceptData entry does before accept_bar moves
-pub completes-leaves : (P : Replica → List Act → Type 0) (r : Replica) (i slot : ℕ) (after : Replica) (acts : List Act) → Completes r i slot after acts
+pub completes-leaves : (P : Replica → List Act → Type 0) (r : Replica) (i slot ballot : ℕ) (after : Replica) (acts : List Act) → Completes r i slot ballot after acts
     → ((s : Slot) (acts : List Act) → length acts ≤ 1 → P (withSlot r i s) acts) → P after acts
-completes-leaves P r i slot _ _ completes-silent on =
+completes-leaves P r i slot ballot _ _ completes-silent on =
     subst (λ (w : Window). P (withWindow r (r .sc) w) []) (put-back (r .window) i) (on (slotAt (r .window) i) [] (omega arith))
-completes-leaves P r i slot _ _ (completes-more b f q) on = on _ _ (omega arith)
-completes-leaves P r i slot _ _ (completes-commit b f q) on = on _ _ (le-refl 1)
-completes-leaves P r i slot _ _ (completes-report a b) on =
+completes-leaves P r i slot ballot _ _ (completes-more h b f q) on = on _ _ (omega arith)
+completes-leaves P r i slot ballot _ _ (completes-commit h b f q) on = on _ _ (le-refl 1)
+completes-leaves P r i slot ballot _ _ (completes-report h a b) on =
     let says : List Act = saysActs (reports (r .sc) (slotAt (r .window) i) slot .says) (reports (r .sc) (slotAt (r .window) i) slot .keys) in
     subst (λ (w : Window). P (withWindow r (r .sc) w) says) (put-back (r .window) i) (on (slotAt (r .window) i) says (le-refl 1))
 

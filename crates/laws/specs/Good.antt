@@ -42,6 +42,7 @@ pub record GoodSlot (Z : Type 0) (group : ℕ) (s : Slot) : Type 0 where
   pub vote : GoodBatch Z (s .vote .batch)
   pub prepares : fitsGroup (s .leader .«prepare_acks») group ≡ true
   pub accepts : fitsGroup (s .leader .«accept_acks») group ≡ true
+  pub notes : fitsGroup (s .leader .notes) group ≡ true
 
 pub record GoodWindow (Z : Type 0) (group : ℕ) (w : Window) : Type 0 where
   pub room : w .len ≤ 64
@@ -84,6 +85,7 @@ fits-good Z r s f =
               vote = record { few = f .slots i l .vote; eight = λ z. s z .vote-keys i l };
               prepares = f .slots i l .prepare;
               accepts = f .slots i l .accept;
+              notes = f .slots i l .notes;
             };
       };
       keys = record { few = f .keys; keys = λ z. s z .table-keys; slots = λ z. s z .table-slots };
@@ -105,6 +107,7 @@ good-fits Z r g =
             vote = g .window .each i l .vote .few;
             prepare = g .window .each i l .prepares;
             accept = g .window .each i l .accepts;
+            notes = g .window .each i l .notes;
           };
       keys = g .keys .few;
       reads = record { count = g .reads .few; each = λ i l. g .reads .each i l .fits };

@@ -52,15 +52,15 @@ module _ (Z : Type 0) (r : Replica) (g : Good Z r) where
       (f .exec) (omega (arith, scan-low p from to)) (omega (arith, scan-below p from to (r .window .len) (omega arith) (omega arith))) (f .accept) (f .accept-log))
       (good-sweep Z (r .sc .group) (λ i s. passedSlot s) (passFrom r) (passStop r) (r .window) (λ i s q. good-passed Z (r .sc .group) s q) (g .window)) (g .keys) (g .reads) (g .bars)
 
-  completed-good : (i slot : ℕ) (after : Replica) (acts : List Act) → i < r .window .len → Completes r i slot after acts → Good Z after
-  completed-good i slot _ _ h completes-silent = g
-  completed-good i slot _ _ h (completes-more b f q) =
-      with-slot-good Z r g i _ (good-acknowledged Z (r .sc .group) (r .sc .id) (slotAt (r .window) i) (g .numbers .member) (g .window .each i h))
-  completed-good i slot _ _ h (completes-commit b f q) =
+  completed-good : (i slot ballot : ℕ) (after : Replica) (acts : List Act) → i < r .window .len → Completes r i slot ballot after acts → Good Z after
+  completed-good i slot ballot _ _ l completes-silent = g
+  completed-good i slot ballot _ _ l (completes-more h b f q) =
+      with-slot-good Z r g i _ (good-acknowledged Z (r .sc .group) (r .sc .id) (slotAt (r .window) i) (g .numbers .member) (g .window .each i l))
+  completed-good i slot ballot _ _ l (completes-commit h b f q) =
       with-slot-good Z r g i _
       (good-committed Z (r .sc .group) (acknowledgedSlot (r .sc .id) (slotAt (r .window) i))
-      (good-acknowledged Z (r .sc .group) (r .sc .id) (slotAt (r .window) i) (g .numbers .member) (g .window .each i h)))
-  completed-good i slot _ _ h (completes-report a b) = g
+      (good-acknowledged Z (r .sc .group) (r .sc .id) (slotAt (r .window) i) (g .numbers .member) (g .window .each i l)))
+  completed-good i slot ballot _ _ l (completes-report h a b) = g
 
   -- the size of the log
   pub sized-good : (d : Done) → r .sc .start ≤ d .slot → d .slot < r .sc .start + r .window .len → Good Z (logged r d)
@@ -86,7 +86,7 @@ module _ (Z : Type 0) (r : Replica) (g : Good Z r) where
       (λ f e o. replyOn-good Z r′ (g′ f) (λ (o : Outcome). Good Z (orKept r o .replica)) (r′ .sc .id) (ownReply (r′ .sc) (loggedAt r d) (d .slot)) (g′ f .numbers .member)
       (good-sent Z (r′ .sc .group) (loggedAt r d) (g′ f .window .each i (at f)))
       (λ a h. orKept-ways (λ (o : Outcome). Good Z (o .replica)) r a r′ (λ z. g′ f) (λ z. g)) (λ after acts p. p))
-      (λ f e l p. g′ f) (λ f e after acts c. moved-good Z after (completed-good Z r′ (g′ f) i (d .slot) after acts (at f) c) (d .slot)) (λ f e b. passed-good Z r′ (g′ f))
+      (λ f e h l p. g′ f) (λ f e after acts c. moved-good Z after (completed-good Z r′ (g′ f) i (d .slot) (d .ballot) after acts (at f) c) (d .slot)) (λ f e b. passed-good Z r′ (g′ f))
 
   -- every call
   does-good : (n : ℕ) (c : Call) → Good Z (does r n c .replica)

@@ -113,11 +113,21 @@ module _ (sc : Scalars) (len : ℕ) (f : FitNumbers sc len) where
       fallen-ways (λ (x : Scalars). FitNumbers x len) sc b m bar f
       (λ max. numbers-moved (sc .«accept_bar») (sc .«commit_bar») (sc .«exec_bar») (sc .«wal_offset») max (f .exec) (f .commit) (f .log) (f .accept) (f .accept-log))
 
-pub numbers-led : (sc : Scalars) (len ballot : ℕ) → FitNumbers sc len → FitNumbers (steppedUp sc ballot) len
-numbers-led sc len ballot f =
+pub numbers-led : (sc : Scalars) (len trigger ballot : ℕ) → FitNumbers sc len → FitNumbers (steppedUp sc trigger ballot) len
+numbers-led sc len trigger ballot f =
     let g = numbers-ballots sc len f (sc .id) ballot 0 ballot (f .member) in
-    numbers-moved (withBallots sc (record { leader = sc .id; «bal_prep_sent» = ballot; «bal_prepared» = 0; «bal_max_seen» = ballot })) len g (sc .«accept_bar») (sc .«commit_bar») (sc .«exec_bar») (sc .«wal_offset») _ (f .exec) (f .commit) (f .log)
-    (f .accept) (f .accept-log)
+    record {
+      size = g .size;
+      member = g .member;
+      start = g .start;
+      window = g .window;
+      leader = g .leader;
+      exec = g .exec;
+      commit = g .commit;
+      log = g .log;
+      accept = g .accept;
+      accept-log = g .accept-log;
+    }
 
 pub bars-long : (sc : Scalars) (b : PeerBars) (m bar : ℕ) → length (withBar sc b m bar .bars) ≡ length (b .bars)
 unfolding withBar

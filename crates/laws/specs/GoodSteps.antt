@@ -16,6 +16,7 @@ use Rattle.slots.specs.declared.Slot.{Slot}
 use Rattle.slots.specs.Slots.{newBook, preparedSlot, redoneSlot, enteredSlot, markedSlot, executedSlot, acknowledgedSlot, nullSlot}
 use Rattle.decide.specs.declared.Reply.{Reply}
 use Rattle.decide.specs.Decide.{decideOffer}
+use Rattle.decide.specs.Scalars.{strict}
 use Rattle.window.specs.declared.Window.{Window}
 use Rattle.window.specs.Window.{slotAt, putSlot, firstOpen}
 use Rattle.window.specs.Places.{filled-low, filled-has}
@@ -29,12 +30,12 @@ use Rattle.laws.specs.OfScalars.{fixed-same, fixed-then, followed-fixed,
 use Rattle.laws.specs.OfFit.{FitNumbers}
 use Rattle.laws.specs.Leaves.{done}
 use Rattle.laws.specs.WaysMessages.{Keeps, KeepsLow, prepareWindow, prepareEnd, prepareStep-ways, acceptWindow, acceptStep-ways, Replies, repliedSlot, acceptReplyStep-ways}
-use Rattle.laws.specs.WaysReply.{Answers, replyWindow, replySlot, adoptsVote, heardSlot, heardWindow, triggerSlot, countedWindow, tabledSc, replyOn-ways, prepareReplyStep-ways, reply-place}
+use Rattle.laws.specs.WaysReply.{Answers, grownWindow, replyWindow, replySlot, adoptsVote, heardSlot, heardWindow, triggerSlot, countedWindow, tabledSc, replyOn-ways, prepareReplyStep-ways, reply-place}
 use Rattle.laws.specs.WaysLeadership.{leadWindow, leadFrom, leadTrigger, leadEnd, timeoutStep-ways, markWindow, markFrom, markEnd, commitNoticeStep-ways}
 use Rattle.laws.specs.WaysDurability.{logged, withSlot}
 use Rattle.laws.specs.WaysAdded.{offerWindow, offerStep-ways, executedStep-ways, openReadStep-ways, readAt, readPlace, mergedRead, readReplyStep-ways}
 use Rattle.laws.specs.Good.{Good, GoodBatch, GoodSlot, GoodWindow, GoodRead, GoodReads, good-after}
-use Rattle.laws.specs.GoodSlots.{good-clean, good-prepared, good-redone, good-heard, good-counted, good-entered, good-accepted, good-acknowledged, good-committed, good-marked, good-executed, good-offered, good-put, good-grown, good-sweep, good-appended}
+use Rattle.laws.specs.GoodSlots.{good-clean, good-prepared, good-redone, good-noted, good-heard, good-counted, good-entered, good-accepted, good-acknowledged, good-committed, good-marked, good-executed, good-offered, good-put, good-grown, good-sweep, good-appended}
 use Rattle.laws.specs.GoodParts.{numbers-more, numbers-followed, numbers-prepared, numbers-moved, numbers-fallen, numbers-led, bars-long, good-keys, good-new, good-merged, good-acked, good-put-read, good-close, good-open}
 use Rattle.laws.specs.Appended.{appended-low, appended-has}
 
@@ -55,8 +56,8 @@ module _ (Z : Type 0) (r : Replica) (g : Good Z r) where
       let w = good-grown Z (r .sc .group) (r .window) k (omega (arith, f .low, f .high)) (g .window) in
       good-after Z r _ (followed-fixed (r .sc) peer ballot)
       (numbers-followed (r .sc) _ (numbers-more (r .sc) (r .window .len) (g .numbers) _ (filled-low nullSlot (r .window) k) (w .room)) peer ballot (f .peer-is .member))
-      (good-sweep Z (r .sc .group) (λ i s. preparedSlot ballot (prepareBook (r .sc) (prepareWindow r trigger) (place (r .sc) trigger) peer) s) (place (r .sc) trigger)
-      (prepareEnd r trigger) (prepareWindow r trigger) (λ i s p. good-prepared Z (r .sc .group) ballot _ s p) w)
+      (good-sweep Z (r .sc .group) (λ i s. preparedSlot (strict (r .sc)) ballot (prepareBook (r .sc) (prepareWindow r trigger) (place (r .sc) trigger) peer) s) (place (r .sc) trigger)
+      (prepareEnd r trigger) (prepareWindow r trigger) (λ i s p. good-prepared Z (r .sc .group) (strict (r .sc)) ballot _ s p) w)
       (g .keys) (g .reads) (g .bars))
 
   pub accept-good : (n peer slot ballot : ℕ) (b : Batch) → After (acceptStep r n peer slot ballot b)
@@ -69,7 +70,7 @@ module _ (Z : Type 0) (r : Replica) (g : Good Z r) where
       good-after Z r _ (followed-fixed (r .sc) peer ballot)
       (numbers-followed (r .sc) _ (numbers-more (r .sc) (r .window .len) (g .numbers) _ (filled-low nullSlot (r .window) k) (w .room)) peer ballot (f .peer-is .member))
       (good-put Z (r .sc .group) (acceptWindow r slot) (place (r .sc) slot) _
-      (good-accepted Z (r .sc .group) peer ballot (clean b) s (good-clean Z b) (w .each (place (r .sc) slot) (omega (arith, filled-has nullSlot (r .window) k)))) w)
+      (good-accepted Z (r .sc .group) (strict (r .sc)) peer ballot (clean b) s (good-clean Z b) (w .each (place (r .sc) slot) (omega (arith, filled-has nullSlot (r .window) k)))) w)
       (good-keys Z true slot (clean b) (r .keys) (g .keys)) (g .reads) (g .bars))
 
   -- one slot written anew, all else as it was
@@ -93,20 +94,21 @@ module _ (Z : Type 0) (r : Replica) (g : Good Z r) where
       let i : ℕ = place (r .sc) (m .slot) in
       let j : ℕ = place (r .sc) (m .trigger) in
       let group : ℕ = r .sc .group in
-      let w : Answers r m → GoodWindow Z group (replyWindow r m) =
-      λ f. good-appended Z group r i j (reply-place r m f) (g .window) in
-      let heard : Answers r m → GoodWindow Z group (heardWindow r m) =
+      let a : Answers r m → GoodWindow Z group (grownWindow r m) = λ f. good-appended Z group r i j (reply-place r m f) (g .window) in
+      let w : Answers r m → GoodWindow Z group (replyWindow r peer m) =
+      λ f. good-put Z group (grownWindow r m) i _ (good-noted Z group (strict (r .sc)) peer (slotAt (grownWindow r m) i) member (a f .each i (appended-has r i j))) (a f) in
+      let heard : Answers r m → GoodWindow Z group (heardWindow r peer m) =
       λ f.
-      good-put Z group (replyWindow r m) i (heardSlot (replySlot r m) m)
-      (good-heard Z group (replySlot r m) m vote (w f .each i (appended-has r i j))) (w f) in
+      good-put Z group (replyWindow r peer m) i (heardSlot (replySlot r peer m) m)
+      (good-heard Z group (replySlot r peer m) m vote (w f .each i (appended-has r i j))) (w f) in
       let counted : Answers r m → GoodWindow Z group (countedWindow r peer m) =
       λ f.
-      good-put Z group (heardWindow r m) j _
-      (good-counted Z group peer (triggerSlot r m) member (heard f .each j (omega (arith, f .low, f .logged, appended-low r i j)))) (heard f) in
+      good-put Z group (heardWindow r peer m) j _
+      (good-counted Z group peer (triggerSlot r peer m) member (heard f .each j (omega (arith, f .low, f .logged, appended-low r i j)))) (heard f) in
       let fixed = fallen-fixed (r .sc) (r .bars) peer (m .bar) in
-      let numbers : Answers r m → FitNumbers (tabledSc r peer m) (replyWindow r m .len) =
+      let numbers : Answers r m → FitNumbers (tabledSc r peer m) (replyWindow r peer m .len) =
       λ f. numbers-fallen (r .sc) _ (numbers-more (r .sc) (r .window .len) (g .numbers) _ (appended-low r i j) (w f .room)) (r .bars) peer (m .bar) in
-      let keys = good-keys Z (adoptsVote (replySlot r m) m) (m .slot) (heardSlot (replySlot r m) m .batch) (r .keys) (g .keys) in
+      let keys = good-keys Z (adoptsVote (replySlot r peer m) m) (m .slot) (heardSlot (replySlot r peer m) m .batch) (r .keys) (g .keys) in
       let bars : Z → length (Rattle.decide.specs.Bars.withBar (r .sc) (r .bars) peer (m .bar) .bars) ≡ 9 = λ z. bars-long (r .sc) (r .bars) peer (m .bar) ∙ g .bars z in
       replyOn-ways P r peer m (λ a h z. k a h)
       (λ f a. on _ _ (good-after Z r _ fixed (numbers f) (w f) (g .keys) (g .reads) bars))
@@ -114,8 +116,8 @@ module _ (Z : Type 0) (r : Replica) (g : Good Z r) where
       (λ f h e q. on _ _ (good-after Z r _ fixed (numbers f) (counted f) keys (g .reads) bars))
       (λ f h e q b. on _ _
       (good-after Z r _ (fixed-then _ _ _ fixed (record { id = refl; group = refl; start = refl; options = refl }))
-      (numbers-prepared (tabledSc r peer m) (replyWindow r m .len) (numbers f) (m .ballot))
-      (good-sweep Z group (λ i s. enteredSlot s) j (replyWindow r m .len) (countedWindow r peer m) (λ i s p. good-entered Z group s p) (counted f)) keys (g .reads) bars))
+      (numbers-prepared (tabledSc r peer m) (replyWindow r peer m .len) (numbers f) (m .ballot))
+      (good-sweep Z group (λ i s. enteredSlot (strict (tabledSc r peer m)) (m .ballot) s) j (replyWindow r peer m .len) (countedWindow r peer m) (λ i s p. good-entered Z group (strict (tabledSc r peer m)) (m .ballot) s p) (counted f)) keys (g .reads) bars))
 
   pub prepareReply-good : (n peer : ℕ) (m : Reply) → After (prepareReplyStep r n peer m)
   prepareReply-good n peer m =
@@ -130,7 +132,7 @@ module _ (Z : Type 0) (r : Replica) (g : Good Z r) where
       let k : ℕ = firstOpen (r .window) + 1 in
       let w = good-grown Z (r .sc .group) (r .window) k (omega (arith, f .room)) (g .window) in
       good-after Z r _ (record { id = refl; group = refl; start = refl; options = refl })
-      (numbers-led (r .sc) _ ballot (numbers-more (r .sc) (r .window .len) (g .numbers) _ (filled-low nullSlot (r .window) k) (w .room)))
+      (numbers-led (r .sc) _ (leadTrigger r) ballot (numbers-more (r .sc) (r .window .len) (g .numbers) _ (filled-low nullSlot (r .window) k) (w .room)))
       (good-sweep Z (r .sc .group) (λ i s. redoneSlot ballot (newBook (leadTrigger r) (leadEnd r)) s) (leadFrom r) (leadWindow r .len) (leadWindow r)
       (λ i s p. good-redone Z (r .sc .group) ballot (leadTrigger r) (leadEnd r) s p) w)
       (g .keys) (g .reads) (λ z. refl))
@@ -154,7 +156,7 @@ module _ (Z : Type 0) (r : Replica) (g : Good Z r) where
       let k : ℕ = r .window .len + 1 in
       let w = good-grown Z (r .sc .group) (r .window) k (omega (arith, f .room)) (g .window) in
       good-after Z r _ (fixed-same (r .sc)) (numbers-more (r .sc) (r .window .len) (g .numbers) _ (filled-low nullSlot (r .window) k) (w .room))
-      (good-put Z (r .sc .group) (offerWindow r) (r .window .len) _ (good-offered Z (r .sc .group) (r .sc .«bal_prepared») (clean b) (good-clean Z b)) w)
+      (good-put Z (r .sc .group) (offerWindow r) (r .window .len) _ (good-offered Z (r .sc .group) (strict (r .sc)) (r .sc .«bal_prepared») (clean b) (good-clean Z b)) w)
       (good-keys Z true (logEnd r) (clean b) (r .keys) (g .keys)) (g .reads) (g .bars))
 
   pub executed-good : (n slot : ℕ) → After (executedStep r n slot)

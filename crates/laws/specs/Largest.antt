@@ -10,6 +10,7 @@ use Rattle.slots.specs.Slots.{noVote, fitSlot}
 use Rattle.decide.specs.Bars.{notAbove, leastMajority, withBar, withFallen}
 use Rattle.decide.specs.Decide.{decideVote, decideCount}
 use Rattle.decide.specs.Scalars.{fitScalars}
+use Rattle.window.specs.Counting.{counts}
 use Rattle.window.specs.Window.{fitSlots, firstOpen, lastOpen, filled}
 use Rattle.replica.specs.declared.Replica.{Replica}
 use Rattle.replica.specs.declared.Entry.the-variants.{PrepareBal}
@@ -31,5 +32,5 @@ largest =
     step waiting 3456 (callPrepareReply 1 (record { slot = 63; trigger = 0; endprep = 63; ballot = 257; voted = false; vote = noVote; bar = 0 }))
 
 pub largest-call : length (largest .actions) ≡ 191
-unfolding largest waiting newReplica fit fitScalars fitSlots fitReads fitSlot filled noting countedOn votedOn repliedOn replyOn prepareReplyStep firstOpen lastOpen leadOn stepUp timeoutStep preparedDone loggedOn loggedStep withBar withFallen notAbove leastMajority decideVote decideCount scan has insert count countIn
+unfolding largest waiting newReplica fit fitScalars fitSlots fitReads fitSlot filled noting countedOn votedOn repliedOn replyOn prepareReplyStep firstOpen lastOpen leadOn stepUp timeoutStep preparedDone loggedOn loggedStep withBar withFallen notAbove leastMajority decideVote decideCount scan has insert count countIn counts
 largest-call = refl

@@ -29,3 +29,7 @@ pub mod AnyOrder
 pub mod InARow
 pub mod BetweenReplies
 pub mod AnyOrderRuns
+pub mod StrictCases
+pub mod Kinds
+pub mod KindCalls
+pub mod KindRuns

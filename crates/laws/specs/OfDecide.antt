@@ -1,6 +1,6 @@
 -- What each decision may be, by name, and the tests that lead to it.
 use mathlib.Core.Path.{_≡_}
-use mathlib.Core.Bool.{true, false, not, _||_}
+use mathlib.Core.Bool.{Bool, true, false, not, _&&_, _||_}
 use Prim.Native.Nat.{ℕ, _≤_, _<_}
 use lib.Dec.{ltb, eqb}
 use borrow.Author.Tests.{ltb-true, ltb-false, eqb-true, not-true, not-false}
@@ -14,8 +14,8 @@ use Rattle.slots.specs.declared.Slot.{Slot}
 use Rattle.slots.specs.Slots.{accepting, countedSlot, acceptedSlot, acknowledgedSlot, committedSlot}
 use Rattle.decide.specs.declared.Scalars.{Scalars}
 use Rattle.decide.specs.declared.Decided.{Decided}
-use Rattle.decide.specs.Scalars.{leads, quorum, followed, stepsDown, withPrepared}
-use Rattle.decide.specs.Decide.{silent, proposal, decideAccept, awaitsAccept, decideAcceptReply, isCounted, decideCount, sentVote, decidePromised, decideAccepted}
+use Rattle.decide.specs.Scalars.{leads, quorum, strict, followed, stepsDown, withPrepared}
+use Rattle.decide.specs.Decide.{silent, proposal, namesOther, decideAccept, awaitsAccept, decideAcceptReply, isCounted, decideCount, sentVote, decidePromised, isStale, decideAccepted}
 
 -- ── an Accept taken ──
 abbrev pub accepts : Scalars → Slot → ℕ → ℕ → ℕ → Batch → Decided
@@ -24,15 +24,16 @@ accepts sc s peer slot ballot b =
       answer = 0;
       noted = true;
       sc = followed sc peer ballot;
-      slot = acceptedSlot peer ballot b s;
+      slot = acceptedSlot (strict sc) peer ballot b s;
       says = pick (stepsDown sc ballot) (Two StatusDown (AcceptData (proposal slot ballot b))) (One (AcceptData (proposal slot ballot b)));
       keys = b .keys;
     }
 
-pub decideAccept-ways : (P : Decided → Type 0) (sc : Scalars) (s : Slot) (peer slot ballot : ℕ) (b : Batch) → P (silent 6 sc s)
-    → (s .ballot ≤ ballot → P (accepts sc s peer slot ballot b)) → P (decideAccept sc s peer slot ballot b)
+pub decideAccept-ways : (P : Decided → Type 0) (sc : Scalars) (s : Slot) (peer slot ballot : ℕ) (b : Batch) → (namesOther sc s b ≡ true → P (silent 15 sc s)) → P (silent 6 sc s)
+    → (namesOther sc s b ≡ false → s .ballot ≤ ballot → P (accepts sc s peer slot ballot b)) → P (decideAccept sc s peer slot ballot b)
 unfolding decideAccept
-decideAccept-ways P sc s peer slot ballot b six on = pick-cases P (ltb ballot (s .ballot)) (λ t. six) (λ t. on (ltb-false _ _ t))
+decideAccept-ways P sc s peer slot ballot b other six on =
+    pick-cases P (namesOther sc s b) other (λ n. pick-cases P (ltb ballot (s .ballot)) (λ t. six) (λ t. on n (ltb-false _ _ t)))
 
 -- ── an AcceptReply counted ──
 abbrev pub commits : Scalars → Slot → ℕ → ℕ → Decided
@@ -119,15 +120,31 @@ abbrev pub reports : Scalars → Slot → ℕ → Decided
 reports sc s slot =
     record { answer = 0; noted = false; sc = sc; slot = s; says = One (AcceptReply (record { member = s .replica .source; slot = slot; ballot = s .ballot })); keys = noKeys }
 
-module _ (P : Decided → Type 0) (sc : Scalars) (s : Slot) (slot : ℕ) where
+-- 02, Wish 6, (a): a completion that a reply or a count follows on
+pub record Heeded (sc : Scalars) (s : Slot) (ballot : ℕ) (ofAccept : Bool) : Type 0 where
+  pub slot : strict sc ≡ true → s .ballot ≡ ballot
+  pub vote : strict sc ≡ true → ofAccept ≡ true → s .vote .ballot ≡ ballot
+
+pub heeded : (sc : Scalars) (s : Slot) (ballot : ℕ) (ofAccept : Bool) → isStale sc s ballot ofAccept ≡ false → Heeded sc s ballot ofAccept
+heeded sc s ballot ofAccept e =
+    record {
+      slot = λ k. eqb-true _ _ (and-left (eqb (s .ballot) ballot) _ (both k));
+      vote = λ k o. eqb-true _ _ (rw o at (and-right (eqb (s .ballot) ballot) _ (both k)));
+    }
+  where
+    both : strict sc ≡ true → (eqb (s .ballot) ballot && (not ofAccept || eqb (s .vote .ballot) ballot)) ≡ true
+    both k = not-false _ (rw k at e)
+
+module _ (P : Decided → Type 0) (sc : Scalars) (s : Slot) (slot ballot : ℕ) where
   pub decideAccepted-ways : P (silent 0 sc s) → P (silent 6 sc s)
-      → (s .ballot ≡ sc .«bal_prepared» → Acknowledges sc s (sc .id) (s .ballot) → countIn (acknowledgedSlot (sc .id) s .leader .«accept_acks») < quorum sc → P (silent 0 sc (acknowledgedSlot (sc .id) s)))
-      → (s .ballot ≡ sc .«bal_prepared» → Acknowledges sc s (sc .id) (s .ballot) → quorum sc ≤ countIn (acknowledgedSlot (sc .id) s .leader .«accept_acks») → P (commits sc s (sc .id) slot))
-      → (leads sc ≡ false → s .replica .present ≡ true → P (reports sc s slot))
-      → P (decideAccepted sc s slot)
+      → (Heeded sc s ballot true → s .ballot ≡ sc .«bal_prepared» → Acknowledges sc s (sc .id) (s .ballot) → countIn (acknowledgedSlot (sc .id) s .leader .«accept_acks») < quorum sc → P (silent 0 sc (acknowledgedSlot (sc .id) s)))
+      → (Heeded sc s ballot true → s .ballot ≡ sc .«bal_prepared» → Acknowledges sc s (sc .id) (s .ballot) → quorum sc ≤ countIn (acknowledgedSlot (sc .id) s .leader .«accept_acks») → P (commits sc s (sc .id) slot))
+      → (Heeded sc s ballot true → leads sc ≡ false → s .replica .present ≡ true → P (reports sc s slot))
+      → P (decideAccepted sc s slot ballot)
   unfolding decideAccepted
   decideAccepted-ways zero six more full on =
-      pick-cases P (leads sc)
+      pick-cases P (isStale sc s ballot true) (λ a. zero)
+      (λ a. pick-cases P (leads sc)
       (λ t. pick-cases P (eqb (s .ballot) (sc .«bal_prepared»))
-      (λ u. decideAcceptReply-ways P sc s (sc .id) slot (s .ballot) zero six (more (eqb-true _ _ u)) (full (eqb-true _ _ u))) (λ u. zero))
-      (λ t. pick-cases P (not (s .replica .present)) (λ u. zero) (λ u. on t (not-false _ u)))
+      (λ u. decideAcceptReply-ways P sc s (sc .id) slot (s .ballot) zero six (more (heeded sc s ballot true a) (eqb-true _ _ u)) (full (heeded sc s ballot true a) (eqb-true _ _ u))) (λ u. zero))
+      (λ t. pick-cases P (not (s .replica .present)) (λ u. zero) (λ u. on (heeded sc s ballot true a) t (not-false _ u))))

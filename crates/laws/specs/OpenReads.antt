@@ -89,9 +89,9 @@ module _ (r : Replica) (n : ℕ) where
       loggedStep-ways Same r n d (λ a h z. refl) (λ f z. refl)
       (λ f e o. replyOn-ways (λ (o : Outcome). Same (orKept r o)) (logged r d) (logged r d .sc .id) _
       (λ a h z. orKept-ways Same r a (logged r d) (λ z. refl) (λ z. refl)) (λ g a. refl) (λ g h e. refl) (λ g h e q. refl) (λ g h e q b. refl))
-      (λ f e l p. refl)
+      (λ f e h l p. refl)
       (λ f e after says c.
-      completes-leaves (λ (x : Replica) y. movedAccept x (d .slot) .reads ≡ r .reads) (logged r d) (place (r .sc) (d .slot)) (d .slot) after says c
+      completes-leaves (λ (x : Replica) y. movedAccept x (d .slot) .reads ≡ r .reads) (logged r d) (place (r .sc) (d .slot)) (d .slot) (d .ballot) after says c
       (λ s y few. moved-ways (λ (x : Replica). x .reads ≡ r .reads) _ (d .slot) refl (λ bar. refl)))
       (λ f e at. refl)
 

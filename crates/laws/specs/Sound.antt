@@ -20,6 +20,7 @@ use Rattle.actions.specs.Actions.{Act, bare}
 use Rattle.slots.specs.Slots.{preparedSlot, newBook, redoneSlot, markedSlot, passedSlot, nullSlot}
 use Rattle.decide.specs.declared.Reply.{Reply}
 use Rattle.decide.specs.Decide.{decideOffer}
+use Rattle.decide.specs.Scalars.{strict}
 use Rattle.window.specs.declared.Window.{Window}
 use Rattle.window.specs.Window.{slotAt, firstOpen}
 use Rattle.window.specs.Acts.{markActs}
@@ -48,7 +49,7 @@ use Rattle.laws.specs.WaysAdded.{offerWindow, offerStep-ways, executedSt
 use Rattle.laws.specs.Counts.{says-few, smaller-left, prepared-few, replyOn-leaves, led-few, mark-few, mark-end, moved-fixed, moved-window, completes-leaves, passed-few, logged-fixed, logged-long, logged-numbers, read-few}
 
 pub record Sound (C : Outcome → Type 0) (r : Replica) (o : Outcome) : Type 0 where
-  pub answers : (keeping (sums r) (o .answer) || eqb (o .answer) 12) ≡ true
+  pub answers : (keeping r (o .answer) || eqb (o .answer) 12) ≡ true
   pub silent : (o .answer ≡ 0 → ⊥) → o .actions ≡ []
   pub same : (o .answer ≡ 0 → ⊥) → (o .answer ≡ 12 → ⊥) → o .replica ≡ r
   pub conflict : o .answer ≡ 12 → C o
@@ -59,7 +60,7 @@ pub record Sound (C : Outcome → Type 0) (r : Replica) (o : Outcome) : Type 0 w
 module _ (C : Outcome → Type 0) where
   sound-kept : (r : Replica) → Keeps (Sound C r) r
   sound-kept r a h =
-      record { answers = rw h; silent = λ n. refl; same = λ n m. refl; conflict = λ e. absurd (clash h (ap (keeping (sums r)) e)); few = omega arith; fixed = fixed-same (r .sc); long = refl }
+      record { answers = rw h; silent = λ n. refl; same = λ n m. refl; conflict = λ e. absurd (clash h (ap (keeping r) e)); few = omega arith; fixed = fixed-same (r .sc); long = refl }
 
   -- what is left to show of a call that acts
   module _ (r after : Replica) (acts : List Act) where
@@ -71,7 +72,7 @@ module _ (C : Outcome → Type 0) where
   prepare-sound r n peer trigger ballot =
       prepareStep-ways (Sound C r) r n peer trigger ballot (sound-kept r)
       (λ f. sound-done r _ _ (prepared-few r peer trigger ballot f) (followed-fixed (r .sc) peer ballot)
-      (sweep-long (λ i s. preparedSlot ballot (prepareBook (r .sc) (prepareWindow r trigger) (place (r .sc) trigger) peer) s) (place (r .sc) trigger) (prepareEnd r trigger) (prepareWindow r trigger)
+      (sweep-long (λ i s. preparedSlot (strict (r .sc)) ballot (prepareBook (r .sc) (prepareWindow r trigger) (place (r .sc) trigger) peer) s) (place (r .sc) trigger) (prepareEnd r trigger) (prepareWindow r trigger)
       ∙ filled-long nullSlot (r .window) (place (r .sc) trigger + 1)))
 
   -- ── Accept, AcceptReply ──
@@ -90,7 +91,7 @@ module _ (C : Outcome → Type 0) where
   prepareReply-sound : (r : Replica) (n peer : ℕ) (m : Reply) → Sound C r (prepareReplyStep r n peer m)
   prepareReply-sound r n peer m =
       prepareReplyStep-ways (Sound C r) r n peer m (λ a h z. sound-kept r a h)
-      (λ f. replyOn-leaves (Sound C r) r peer (cleanReply m) (fit-facts r (f .fits) .numbers .window) (λ a h. sound-kept r a (keeping-low (sums r) a h)) (λ after acts. sound-done r after acts))
+      (λ f. replyOn-leaves (Sound C r) r peer (cleanReply m) (fit-facts r (f .fits) .numbers .window) (λ a h. sound-kept r a (keeping-low r a h)) (λ after acts. sound-done r after acts))
 
   timeout-sound : (r : Replica) (n source : ℕ) → Sound C r (timeoutStep r n source)
   timeout-sound r n source =
@@ -119,10 +120,10 @@ module _ (C : Outcome → Type 0) where
       let idle : Sound C r (done r′ []) = acts r′ [] (omega arith) (fixed-same (r′ .sc)) refl in
       loggedStep-ways (Sound C r) r n d (λ a h z. sound-kept r a h) (λ f z. idle)
       (λ f e o. replyOn-leaves (λ (o : Outcome). Sound C r (orKept r o)) r′ (r′ .sc .id) _ (numbers f .window)
-      (λ a h. orKept-ways (Sound C r) r a r′ (λ z. idle) (λ z. sound-kept r a (keeping-low (sums r) a h))) acts)
-      (λ f e l p. acts r′ _ (omega arith) (fixed-same (r′ .sc)) refl)
+      (λ a h. orKept-ways (Sound C r) r a r′ (λ z. idle) (λ z. sound-kept r a (keeping-low r a h))) acts)
+      (λ f e h l p. acts r′ _ (omega arith) (fixed-same (r′ .sc)) refl)
       (λ f e after says c.
-      completes-leaves (λ (x : Replica) (y : List Act). Sound C r (done (movedAccept x (d .slot)) y)) r′ (place (r .sc) (d .slot)) (d .slot) after says c
+      completes-leaves (λ (x : Replica) (y : List Act). Sound C r (done (movedAccept x (d .slot)) y)) r′ (place (r .sc) (d .slot)) (d .slot) (d .ballot) after says c
       (λ s y few. acts _ y (omega arith) (fixed-then _ _ _ (fixed-same (r′ .sc)) (moved-fixed (withSlot r′ (place (r .sc) (d .slot)) s) (d .slot)))
       (subst (λ (w : Window). size w ≡ size (r′ .window)) (sym (moved-window (withSlot r′ (place (r .sc) (d .slot)) s) (d .slot))) (put-long (r′ .window) (place (r .sc) (d .slot)) s))))
       (λ f e at. acts _ _ (passed-few r′ (numbers f)) (record { id = refl; group = refl; start = refl; options = refl })

@@ -1,15 +1,15 @@
 -- What holds of every call, over all replicas, rooms and calls.
-use mathlib.Core.Path.{_≡_, refl, sym, subst, _∙_}
+use mathlib.Core.Path.{_≡_, refl, sym, ap, subst, _∙_}
 use mathlib.Core.Bool.{Bool, true, false, not, _&&_, and-false}
 use mathlib.Core.List.{[]}
 use mathlib.Core.Logic.{_⊎_, inl, inr, ⊎-elim}
-use Prim.Native.Nat.{ℕ, _≤_, _<_}
+use Prim.Native.Nat.{ℕ, _/_, _%_, _≤_, _<_}
 use native.Mathlib.Omega.{arith}
 use lib.Dec.{leb, eqb}
 use lib.ListN.{length}
 use borrow.Author.Tests.{le-leb, lt-leb, eqb-true, not-true}
 use Rattle.base.specs.Pick.{pick-both, decide, and-left, and-right, or-cases, clash, tests}
-use Rattle.decide.specs.Scalars.{mayBe, fitScalars}
+use Rattle.decide.specs.Scalars.{strict, mayBe, fitScalars}
 use Rattle.window.specs.Places.{size}
 use Rattle.replica.specs.declared.Replica.{Replica}
 use Rattle.replica.specs.declared.Made.{Made}
@@ -36,20 +36,36 @@ refusals-keep r n c = step-sound r n c .same
 pub few-actions : (r : Replica) (n : ℕ) (c : Call) → length (step r n c .actions) ≤ 192
 few-actions r n c = omega (arith, step-sound r n c .few)
 
--- 01's table of answers, with 02's 14 where the summary is not the walk's; 13 is the trace's
-pub few-answers : (r : Replica) (n : ℕ) (c : Call) → (step r n c .answer ≤ 12) ⊎ ((step r n c .answer ≡ 14) × (sums r ≡ false))
-few-answers r n c = go (or-cases (keeping (sums r) (step r n c .answer)) _ (step-sound r n c .answers))
+-- 01's table of answers, with 02's 14 where the summary is not the walk's and 15 in the strict kind; 13 is the trace's
+pub few-answers : (r : Replica) (n : ℕ) (c : Call)
+    → (step r n c .answer ≤ 12) ⊎ (((step r n c .answer ≡ 14) × (sums r ≡ false)) ⊎ ((step r n c .answer ≡ 15) × (strict (r .sc) ≡ true)))
+few-answers r n c = go (or-cases (keeping r (step r n c .answer)) _ (step-sound r n c .answers))
   where
     wrong : (t : Bool) → ((eqb (step r n c .answer) 14 && not t) ≡ true) → (step r n c .answer ≡ 14) × (t ≡ false)
     wrong t e = (eqb-true _ _ (and-left (eqb (step r n c .answer) 14) (not t) e), not-true t (and-right (eqb (step r n c .answer) 14) (not t) e))
 
-    go : (keeping (sums r) (step r n c .answer) ≡ true) ⊎ (eqb (step r n c .answer) 12 ≡ true) → (step r n c .answer ≤ 12) ⊎ ((step r n c .answer ≡ 14) × (sums r ≡ false))
-    go (inl k) = ⊎-elim (λ (t : leb (step r n c .answer) 11 ≡ true). inl (omega (arith, tests))) (λ t. inr (wrong (sums r) t)) (or-cases (leb (step r n c .answer) 11) _ k)
+    go : (keeping r (step r n c .answer) ≡ true) ⊎ (eqb (step r n c .answer) 12 ≡ true)
+        → (step r n c .answer ≤ 12) ⊎ (((step r n c .answer ≡ 14) × (sums r ≡ false)) ⊎ ((step r n c .answer ≡ 15) × (strict (r .sc) ≡ true)))
+    go (inl k) =
+        ⊎-elim (λ (t : leb (step r n c .answer) 11 ≡ true). inl (omega (arith, tests)))
+        (λ t.
+        ⊎-elim (λ (u : (eqb (step r n c .answer) 14 && not (sums r)) ≡ true). inr (inl (wrong (sums r) u)))
+        (λ u. inr (inr (eqb-true _ _ (and-left (eqb (step r n c .answer) 15) _ u), and-right (eqb (step r n c .answer) 15) _ u)))
+        (or-cases (eqb (step r n c .answer) 14 && not (sums r)) _ t))
+        (or-cases (leb (step r n c .answer) 11) _ k)
     go (inr e) = inl (omega (arith, tests))
 
 -- 02, Wish 1: 14 to no record that has the walk's numbers
 pub never-fourteen : (r : Replica) (n : ℕ) (c : Call) → sums r ≡ true → step r n c .answer ≡ 14 → ⊥
-never-fourteen r n c e f = ⊎-elim (λ (t : step r n c .answer ≤ 12). omega arith) (λ t. clash e (t .1)) (few-answers r n c)
+never-fourteen r n c e f =
+    ⊎-elim (λ (t : step r n c .answer ≤ 12). omega arith) (λ t. ⊎-elim (λ (u : (step r n c .answer ≡ 14) × (sums r ≡ false)). clash e (u .1)) (λ u. omega (arith, u .0)) t)
+    (few-answers r n c)
+
+-- 02, Wish 6: 15 to no base replica
+pub never-fifteen : (r : Replica) (n : ℕ) (c : Call) → strict (r .sc) ≡ false → step r n c .answer ≡ 15 → ⊥
+never-fifteen r n c e f =
+    ⊎-elim (λ (t : step r n c .answer ≤ 12). omega arith) (λ t. ⊎-elim (λ (u : (step r n c .answer ≡ 14) × (sums r ≡ false)). omega (arith, u .0)) (λ u. clash (u .1) e) t)
+    (few-answers r n c)
 
 pub id-stays : (r : Replica) (n : ℕ) (c : Call) → step r n c .replica .sc .id ≡ r .sc .id
 id-stays r n c = step-sound r n c .fixed .id
@@ -61,6 +77,10 @@ pub options-stay : (r : Replica) (n : ℕ) (c : Call) → step r n c .replica .s
 options-stay r n c = step-sound r n c .fixed .options
 
 -- 01: "start_slot .. does not move"
+-- 02, Wish 6: the kind is chosen when it is made
+pub kind-stays : (r : Replica) (n : ℕ) (c : Call) → strict (step r n c .replica .sc) ≡ strict (r .sc)
+kind-stays r n c = ap (λ (o : ℕ). eqb (o / 4 % 2) 1) (options-stay r n c)
+
 pub start-stays : (r : Replica) (n : ℕ) (c : Call) → step r n c .replica .sc .start ≡ r .sc .start
 start-stays r n c = step-sound r n c .fixed .start
 

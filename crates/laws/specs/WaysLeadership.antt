@@ -44,7 +44,7 @@ abbrev pub led : Replica → ℕ → Outcome
 led r ballot =
     done
     (record {
-      sc = steppedUp (r .sc) ballot;
+      sc = steppedUp (r .sc) (leadTrigger r) ballot;
       bars = unknownBars (r .bars .own);
       window = sweep (λ i s. redoneSlot ballot (newBook (leadTrigger r) (leadEnd r)) s) (leadFrom r) (leadWindow r .len) (leadWindow r);
       keys = r .keys;

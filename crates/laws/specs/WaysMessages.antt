@@ -20,7 +20,8 @@ use Rattle.slots.specs.declared.Slot.{Slot}
 use Rattle.slots.specs.Slots.{preparedSlot, acknowledgedSlot}
 use Rattle.decide.specs.declared.Scalars.{Scalars}
 use Rattle.decide.specs.declared.Decided.{Decided}
-use Rattle.decide.specs.Scalars.{isMember, isPeer, followed, quorum}
+use Rattle.decide.specs.Decide.{namesOther}
+use Rattle.decide.specs.Scalars.{isMember, isPeer, strict, followed, quorum}
 use Rattle.window.specs.declared.Window.{Window}
 use Rattle.window.specs.Window.{slotAt, putSlot, grown, sweep}
 use Rattle.window.specs.Acts.{promise}
@@ -31,20 +32,20 @@ use Rattle.replica.specs.Messages.{clean, downActs, prepareTop, prepareBook, pr
 use Rattle.laws.specs.Leaves.{done, settledTo, settled-silent, noting-ways}
 use Rattle.laws.specs.OfDecide.{accepts, commits, Acknowledges, decideAccept-ways, decideAcceptReply-ways}
 
--- the answers with which a replica is kept: 0 to 11, and 14 where the summary is not the walk's; neither 12 nor 13
-abbrev pub keeping : Bool → ℕ → Bool
-keeping sum a = leb a 11 || (eqb a 14 && not sum)
+-- the answers with which a replica is kept: 0 to 11, 14 where the summary is not the walk's, and 15 in the strict kind; neither 12 nor 13
+abbrev pub keeping : Replica → ℕ → Bool
+keeping r a = leb a 11 || ((eqb a 14 && not (sums r)) || (eqb a 15 && strict (r .sc)))
 
-pub keeping-low : (sum : Bool) (a : ℕ) → leb a 11 ≡ true → keeping sum a ≡ true
-keeping-low sum a e = rw e
+pub keeping-low : (r : Replica) (a : ℕ) → leb a 11 ≡ true → keeping r a ≡ true
+keeping-low r a e = rw e
 
 -- of every refusal and of every call that is ignored: the replica is as it was
 abbrev pub Keeps : (Outcome → Type 0) → Replica → Type 0
-Keeps P r = (a : ℕ) → keeping (sums r) a ≡ true → P (kept a r)
+Keeps P r = (a : ℕ) → keeping r a ≡ true → P (kept a r)
 
 -- the same, told why a call is ignored
 abbrev pub KeepsFor : Type 0 → (Outcome → Type 0) → Replica → Type 0
-KeepsFor Why P r = (a : ℕ) → keeping (sums r) a ≡ true → (a ≡ 0 → Why) → P (kept a r)
+KeepsFor Why P r = (a : ℕ) → keeping r a ≡ true → (a ≡ 0 → Why) → P (kept a r)
 
 -- the same past the first test, where 14 is given no more
 abbrev pub KeepsLow : (Outcome → Type 0) → Replica → Type 0
@@ -54,9 +55,9 @@ abbrev pub KeepsLowFor : Type 0 → (Outcome → Type 0) → Replica → Type 0
 KeepsLowFor Why P r = (a : ℕ) → leb a 11 ≡ true → (a ≡ 0 → Why) → P (kept a r)
 
 -- 1 and 14
-pub unready-keeping : (r : Replica) (n : ℕ) → ready r n ≡ false → keeping (sums r) (unready r n) ≡ true
+pub unready-keeping : (r : Replica) (n : ℕ) → ready r n ≡ false → keeping r (unready r n) ≡ true
 unready-keeping r n e =
-    pick-cases (λ (a : ℕ). keeping (sums r) a ≡ true) (roomy n && fit r)
+    pick-cases (λ (a : ℕ). keeping r a ≡ true) (roomy n && fit r)
     (λ t. rw (unsummed (decide (sums r)) (and-both (roomy n) (fit r) t)))
     (λ t. refl)
   where
@@ -92,7 +93,7 @@ abbrev pub prepared : Replica → ℕ → ℕ → ℕ → Outcome
 prepared r peer trigger ballot =
     done
     (withWindow r (followed (r .sc) peer ballot)
-    (sweep (λ i s. preparedSlot ballot (prepareBook (r .sc) (prepareWindow r trigger) (place (r .sc) trigger) peer) s) (place (r .sc) trigger) (prepareEnd r trigger)
+    (sweep (λ i s. preparedSlot (strict (r .sc)) ballot (prepareBook (r .sc) (prepareWindow r trigger) (place (r .sc) trigger) peer) s) (place (r .sc) trigger) (prepareEnd r trigger)
     (prepareWindow r trigger)))
     (downActs (r .sc) ballot ++ gather (λ i. promise (number (r .sc) i) ballot ∷ []) (place (r .sc) trigger) (prepareEnd r trigger))
 
@@ -148,6 +149,7 @@ pub record Accepts (r : Replica) (peer slot ballot : ℕ) (b : Batch) : Type 0 w
   pub low : r .sc .start ≤ slot
   pub high : slot < r .sc .start + 64
   pub seen : r .sc .«bal_max_seen» ≤ ballot
+  pub not-other : namesOther (r .sc) (slotAt (acceptWindow r slot) (place (r .sc) slot)) (clean b) ≡ false
   pub not-above : slotAt (acceptWindow r slot) (place (r .sc) slot) .ballot ≤ ballot
   pub room : overfull (r .keys) (clean b) ≡ false
 
@@ -163,8 +165,8 @@ acceptStep-ways P r n peer slot ballot b k on =
     (λ f. pick-cases P (ltb ballot (r .sc .«bal_max_seen»)) (λ g. k 0 refl)
     (λ g. pick-cases P (leb (r .sc .start + 64) slot) (λ h. k 5 refl)
     (λ h. decideAccept-ways (λ (d : Decided). P (settled r (acceptWindow r slot) (place (r .sc) slot) slot d)) (r .sc) (slotAt (acceptWindow r slot) (place (r .sc) slot)) peer slot ballot (clean b)
-    (k 6 refl)
-    (λ i. noting-ways P r true slot (clean b) _ _ refl (k 7 refl)
+    (λ o. k 15 (and-left (strict (r .sc)) _ o)) (k 6 refl)
+    (λ o i. noting-ways P r true slot (clean b) _ _ refl (k 7 refl)
     (λ j. on
     (record {
       fits = ready-fit r n (not-false _ x);
@@ -174,6 +176,7 @@ acceptStep-ways P r n peer slot ballot b k on =
       low = ltb-false _ _ f;
       high = leb-false _ _ h;
       seen = ltb-false _ _ g;
+      not-other = o;
       not-above = i;
       room = j;
     }))))))))))

@@ -66,7 +66,8 @@ callOf d =
     (pick (eqb (d .kind) 6) (callTimeout (d .peer))
     (ownCallOf d))))))
 
--- "0 new (peer = id, sub = group, slot = start, trigger = 1 urgent + 2 disallow)"; "a refused kind 0 keeps the old one"
+-- "0 new (peer = id, sub = group, slot = start, trigger = 1 urgent + 2 disallow)"; "a refused kind 0 keeps the old one"; 02, Wish 6: a strict
+-- replica has "4 more in trigger"
 unfoldable pub renewed : Replica → Record → Outcome
 renewed r d =
     pick (eqb (newReplica (d .peer) (d .sub) (d .slot) (d .trigger) .answer) 0)

@@ -154,7 +154,7 @@ module _ {r : Replica} {w : Window} {i slot : ℕ} {d : Decided} {room : List �
     where
       go : Settles (r .sc) (slotAt w i) d → Steady (r .sc) (d .sc)
       go (done z k) = k
-      go (refused z) = absurd (omega (arith, ap (λ (x : Decided). x .answer) z))
+      go (refused n h z) = absurd (h (sym (ap (λ (x : Decided). x .answer) z) ∙ e))
 
   before : Sums (d .sc) w (r .summary)
   before = sums-steady (r .sc) (d .sc) w (r .summary) (steady .start) (steady .commit) (f .sum)

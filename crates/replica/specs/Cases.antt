@@ -26,6 +26,7 @@ use Rattle.decide.specs.Bars.{notAbove, leastMajority, withBar, withFallen}
 use Rattle.decide.specs.Decide.{decideAccept, decideAcceptReply, decideVote, decideCount, decidePromised, decideAccepted, decideOffer}
 use Rattle.decide.specs.Scalars.{fitScalars}
 use Rattle.window.specs.Window.{slotAt, fitSlots, lastUsed, firstOpen, lastOpen, markStop, filled}
+use Rattle.window.specs.Counting.{lacking, counts}
 use Rattle.replica.specs.declared.Replica.{Replica}
 use Rattle.replica.specs.declared.Entry.the-variants.{PrepareBal}
 use Rattle.replica.specs.Record.{Outcome, newReplica, noting, settled}
@@ -81,12 +82,12 @@ slotNumbers x =
     (x .ballot ∷ x .status ∷ x .vote .ballot ∷ flagOf (x .external) ∷ x .«wal_offset» ∷ batchNumbers (x .batch))
     ++ (batchNumbers (x .vote .batch)
     ++ (flagOf (x .leader .present) ∷ x .leader .trigger ∷ x .leader .endprep ∷ x .leader .«prepare_acks» ∷ x .leader .«prepare_max_bal»
-    ∷ x .leader .«accept_acks» ∷ flagOf (x .replica .present) ∷ x .replica .source ∷ x .replica .trigger ∷ x .replica .endprep ∷ []))
+    ∷ x .leader .«accept_acks» ∷ x .leader .notes ∷ flagOf (x .replica .present) ∷ x .replica .source ∷ x .replica .trigger ∷ x .replica .endprep ∷ []))
 
 abbrev pub scalarNumbers : Scalars → List ℕ
 scalarNumbers sc =
     sc .id ∷ sc .group ∷ sc .start ∷ sc .options ∷ sc .leader ∷ sc .«bal_prep_sent» ∷ sc .«bal_prepared» ∷ sc .«bal_max_seen» ∷ sc .«accept_bar»
-    ∷ sc .«commit_bar» ∷ sc .«exec_bar» ∷ sc .«wal_offset» ∷ sc .«peer_accept_max» ∷ []
+    ∷ sc .«commit_bar» ∷ sc .«exec_bar» ∷ sc .«wal_offset» ∷ sc .«peer_accept_max» ∷ sc .«lead_trigger» ∷ []
 
 abbrev pub whole : Replica → List ℕ
 whole r =
@@ -96,28 +97,31 @@ whole r =
     ++ (gather (λ i. getD (r .keys .keys) i 0 ∷ getD (r .keys .slots) i 0 ∷ []) 0 (r .keys .count)
     ++ openReads r)))
 
-unfoldable pub rightTurn : Replica → Outcome → Turn → Bool
-rightTurn r o t =
-    eqb (o .answer) (t .answer) && (sameList (look (o .replica)) (t .seen) && (sameList (flat (o .actions)) (t .numbers)
-    && (not (t .stays) || sameList (whole (o .replica)) (whole r))))
-
--- each turn of a run, one after the other
-unfoldable pub rightRun : Replica → List Turn → Bool
-rightRun r [] = true
-rightRun r (t ∷ ts) = rightTurn r (step r 3456 (t .call)) t && rightRun (step r 3456 (t .call) .replica) ts
-
 -- a run from a new replica
 pub record Run : Type 0 where
   pub id : ℕ
   pub group : ℕ
+  pub options : ℕ
   pub turns : List Turn
 
 abbrev pub run : ℕ → ℕ → List Turn → Run
-run id group turns = record { id = id; group = group; turns = turns }
+run id group turns = record { id = id; group = group; options = 0; turns = turns }
 
-unfoldable pub rightRuns : List Run → Bool
-rightRuns [] = true
-rightRuns (k ∷ ks) = rightRun (newReplica (k .id) (k .group) 0 0 .replica) (k .turns) && rightRuns ks
+-- by what is looked at after each call
+module _ (look : Replica → List ℕ) where
+  unfoldable pub rightTurn : Replica → Outcome → Turn → Bool
+  rightTurn r o t =
+      eqb (o .answer) (t .answer) && (sameList (look (o .replica)) (t .seen) && (sameList (flat (o .actions)) (t .numbers)
+      && (not (t .stays) || sameList (whole (o .replica)) (whole r))))
+
+  -- each turn of a run, one after the other
+  unfoldable pub rightRun : Replica → List Turn → Bool
+  rightRun r [] = true
+  rightRun r (t ∷ ts) = rightTurn r (step r 3456 (t .call)) t && rightRun (step r 3456 (t .call) .replica) ts
+
+  unfoldable pub rightRuns : List Run → Bool
+  rightRuns [] = true
+  rightRuns (k ∷ ks) = rightRun (newReplica (k .id) (k .group) 0 (k .options) .replica) (k .turns) && rightRuns ks
 
 -- what is seen of a replica with no open read
 abbrev pub plain : ℕ → ℕ → ℕ → ℕ → List ℕ
@@ -239,6 +243,6 @@ marked =
     (asked ∷ told 0 (ofOne (withValue 7 9)) 0 (held 1 2 7 9) [] ∷ fresh (callReadReply 1 5 true (ofOne (SlotAlone 7))) 0 [] (answers 0 1 255) ∷ [])
     ∷ []
 
-pub marked-hold : T (rightRuns marked)
-unfolding rightRuns marked rightRun rightTurn newReplica fit fitScalars fitSlots fitReads fitSlot filled noting settled prepareOn prepareStep lastUsed countedOn votedOn repliedOn replyOn prepareReplyStep acceptStep acceptReplyStep firstOpen lastOpen leadOn stepUp timeoutStep markOn markStop commitNoticeStep preparedDone movedAccept acceptedDone passOn passStop committedDone loggedOn loggedStep openReadStep repliedStep readReplyStep offerStep movedExec executedStep decideAccept decideAcceptReply decideVote decideCount decidePromised decideAccepted decideOffer notAbove leastMajority withBar withFallen has insert count countIn makeBatch noteKey noteKeys newKeys placeIn overfullIn merge findRead openRead closeRead putRead replyTo scan
+pub marked-hold : T (rightRuns look marked)
+unfolding rightRuns marked rightRun rightTurn newReplica fit fitScalars fitSlots fitReads fitSlot filled noting settled prepareOn prepareStep lastUsed countedOn votedOn repliedOn replyOn prepareReplyStep acceptStep acceptReplyStep firstOpen lastOpen leadOn stepUp timeoutStep markOn markStop commitNoticeStep preparedDone movedAccept acceptedDone passOn passStop committedDone loggedOn loggedStep openReadStep repliedStep readReplyStep offerStep movedExec executedStep decideAccept decideAcceptReply decideVote decideCount decidePromised decideAccepted decideOffer notAbove leastMajority withBar withFallen has insert count countIn makeBatch noteKey noteKeys newKeys placeIn overfullIn merge findRead openRead closeRead putRead replyTo scan counts lacking
 marked-hold = tt

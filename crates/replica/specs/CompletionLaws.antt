@@ -23,7 +23,7 @@ use Rattle.decide.specs.declared.Scalars.{Scalars}
 use Rattle.decide.specs.declared.Decided.{Decided}
 use Rattle.decide.specs.declared.Reply.{Reply}
 use Rattle.decide.specs.Scalars.{leads, withAcceptBar, withBars, withLogSize, notifies}
-use Rattle.decide.specs.Decide.{decidePromised, decideAccepted}
+use Rattle.decide.specs.Decide.{decidePromised, isStale, decideAccepted}
 use Rattle.decide.specs.Laws.{Steady, steady-self, Settles, done, refused, settles-promised, settles-accepted}
 use Rattle.decide.specs.PrepareReply.{ownReply}
 use Rattle.window.specs.declared.Window.{Window}
@@ -43,7 +43,7 @@ use Rattle.replica.specs.declared.Entry.the-variants.{PrepareBal, Accept
 use Rattle.replica.specs.declared.Done.{Done}
 use Rattle.replica.specs.Record.{Outcome, kept, noting, settled, summed, withWindow, place, number, logEnd}
 use Rattle.replica.specs.Fit.{ready}
-use Rattle.replica.specs.Messages.{appended, appendActs, tabled, repliedOn, orKept, inRange, replyOn}
+use Rattle.replica.specs.Messages.{appended, noted, appendActs, tabled, repliedOn, orKept, inRange, isElsewhere, replyOn}
 use Rattle.replica.specs.Durability.{preparedDone, movedAccept, thenMoved, acceptedDone, noticeActs, passOn, passStop, committedDone, doneOn, loggedOn, loggedStep}
 use Rattle.replica.specs.Step.{Told}
 use Rattle.replica.specs.AdmitLaws.{Ready, gate-ready, gate-shut, ready-goes}
@@ -225,14 +225,14 @@ module _ (r : Replica) (f : BarsFit r) where
   settled-bars i slot s d (done e k) =
       pick-both Fine (not (eqb (d .answer) 0)) f
       (noting-bars (d .noted) slot (d .slot .batch) _ (bars-kept r (withWindow r (d .sc) (putSlot (r .window) i (d .slot))) k refl f))
-  settled-bars i slot s d (refused e) = rw e f
+  settled-bars i slot s d (refused n h e) = rw (e, ne-eqb n 0 h) f
 
-module _ (r : Replica) (i slot : ℕ) (s : Slot) where
+module _ (r : Replica) (i slot ballot : ℕ) (s : Slot) where
   abbrev settledVote : Outcome
-  settledVote = settled r (r .window) i slot (decideAccepted (r .sc) s slot)
+  settledVote = settled r (r .window) i slot (decideAccepted (r .sc) s slot ballot)
 
-  module _ {h : Handled} {room after : List ℕ} (d : Decided) (e : d ≡ decideAccepted (r .sc) s slot) (t : Told (summed (settled r (r .window) i slot d)) h room after) where
-    pub accepted-refused : (h .answer ≡ 0 → ⊥) → Told (summed (acceptedDone r i slot s)) h room after
+  module _ {h : Handled} {room after : List ℕ} (d : Decided) (e : d ≡ decideAccepted (r .sc) s slot ballot) (t : Told (summed (settled r (r .window) i slot d)) h room after) where
+    pub accepted-refused : (h .answer ≡ 0 → ⊥) → Told (summed (acceptedDone r i slot ballot s)) h room after
     unfolding acceptedDone
     accepted-refused n =
         let u : Told (summed settledVote) h room after = rw e at t in
@@ -240,16 +240,16 @@ module _ (r : Replica) (i slot : ℕ) (s : Slot) where
 
     pub accepted-bars : BarsFit r → BarsFit (h .replica)
     accepted-bars f =
-        let b = settled-bars r f i slot s (decideAccepted (r .sc) s slot) (settles-accepted (r .sc) s slot) in
+        let b = settled-bars r f i slot s (decideAccepted (r .sc) s slot ballot) (settles-accepted (r .sc) s slot ballot) in
         rw (t .handed, e) (bars-kept (settledVote .replica) (summed settledVote .replica) (steady-self (settledVote .replica .sc)) refl b)
 
     pub accepted-moved : (m : Replica) → h .answer ≡ 0 → m ≡ movedAccept (h .replica) slot
-        → Told (summed (acceptedDone r i slot s)) (record { answer = 0; count = h .count; replica = m }) room after
+        → Told (summed (acceptedDone r i slot ballot s)) (record { answer = 0; count = h .count; replica = m }) room after
     unfolding acceptedDone
     accepted-moved m z g =
         let u : Told (summed settledVote) h room after = rw e at t in
         let a : settledVote .answer ≡ 0 = sym (ap (λ (x : Handled). x .answer) (u .handed)) ∙ z in
-        let q : acceptedDone r i slot s ≡ record { answer = 0; replica = movedAccept (settledVote .replica) slot; actions = settledVote .actions } =
+        let q : acceptedDone r i slot ballot s ≡ record { answer = 0; replica = movedAccept (settledVote .replica) slot; actions = settledVote .actions } =
         rw (eq-eqb (settledVote .answer) 0 a) in
         let kept : h .replica ≡ walked (settledVote .replica) = ap (λ (x : Handled). x .replica) (u .handed) ∙ rw (eq-eqb (settledVote .answer) 0 a) in
         let n : h .count ≡ length (settledVote .actions) = ap (λ (x : Handled). x .count) (u .handed) in
@@ -258,26 +258,31 @@ module _ (r : Replica) (i slot : ℕ) (s : Slot) where
         (record { handed = λ k. record { answer = 0; count = n k; replica = p k }; written = u .written })
 
 -- ── PrepareBal ──
-module _ (r : Replica) (i slot : ℕ) (s : Slot) where
-  pub prepared-follows : (d : Decided) → (r .sc .leader ≡ r .sc .id → ⊥) → d ≡ decidePromised (r .sc) s slot
-      → preparedDone r i slot s ≡ settled r (r .window) i slot d
+module _ (r : Replica) (i slot ballot : ℕ) (s : Slot) where
+  pub prepared-stale : isStale (r .sc) s ballot false ≡ true → preparedDone r i slot ballot s ≡ kept 0 r
   unfolding preparedDone
-  prepared-follows d h e = rw (ne-eqb (r .sc .leader) (r .sc .id) h, e)
+  prepared-stale a = rw a
 
-  module _ (l : r .sc .leader ≡ r .sc .id) where
-    pub prepared-unbooked : s .leader .present ≡ false → preparedDone r i slot s ≡ kept 0 r
-    unfolding preparedDone
-    prepared-unbooked e = rw (eq-eqb (r .sc .leader) (r .sc .id) l, e)
+  pub prepared-follows : (d : Decided) → isStale (r .sc) s ballot false ≡ false → (r .sc .leader ≡ r .sc .id → ⊥) → d ≡ decidePromised (r .sc) s slot
+      → preparedDone r i slot ballot s ≡ settled r (r .window) i slot d
+  unfolding preparedDone
+  prepared-follows d a h e = rw (a, ne-eqb (r .sc .leader) (r .sc .id) h, e)
 
-    pub prepared-past : s .leader .endprep < slot → preparedDone r i slot s ≡ kept 0 r
+  module _ (a : isStale (r .sc) s ballot false ≡ false) (l : r .sc .leader ≡ r .sc .id) where
+    pub prepared-unbooked : s .leader .present ≡ false → preparedDone r i slot ballot s ≡ kept 0 r
     unfolding preparedDone
-    prepared-past h = rw (eq-eqb (r .sc .leader) (r .sc .id) l, lt-leb slot (s .leader .endprep) h, and-false)
+    prepared-unbooked e = rw (a, eq-eqb (r .sc .leader) (r .sc .id) l, e)
+
+    pub prepared-past : s .leader .endprep < slot → preparedDone r i slot ballot s ≡ kept 0 r
+    unfolding preparedDone
+    prepared-past h = rw (a, eq-eqb (r .sc .leader) (r .sc .id) l, lt-leb slot (s .leader .endprep) h, and-false)
 
     pub prepared-replies : (m : Reply) → s .leader .present ≡ true → slot ≤ s .leader .endprep → m ≡ ownReply (r .sc) s slot
-        → preparedDone r i slot s ≡ replyOn r (r .sc .id) m
+        → preparedDone r i slot ballot s ≡ replyOn r (r .sc .id) m
     unfolding preparedDone
-    prepared-replies m e h f = rw (eq-eqb (r .sc .leader) (r .sc .id) l, e, le-leb slot (s .leader .endprep) h, f)
+    prepared-replies m e h f = rw (a, eq-eqb (r .sc .leader) (r .sc .id) l, e, le-leb slot (s .leader .endprep) h, f)
 
+module _ (r : Replica) (i slot : ℕ) (s : Slot) where
   pub own-fits : (room : List ℕ) (m : Reply) → DoneFits r i slot room → m ≡ ownReply (r .sc) s slot → ReplyFits r room m
   own-fits room m f e =
       record {
@@ -309,8 +314,8 @@ module _ (r : Replica) (i slot : ℕ) where
   pub promised-settles : (room : List ℕ) (d : Decided) → DoneFits r i slot room → d ≡ decidePromised (r .sc) (slotAt (r .window) i) slot → SettleFits r (r .window) i slot d room
   promised-settles room d f e = done-settles room d f (rw e (settles-promised (r .sc) (slotAt (r .window) i) slot))
 
-  pub accepted-settles : (room : List ℕ) (d : Decided) → DoneFits r i slot room → d ≡ decideAccepted (r .sc) (slotAt (r .window) i) slot → SettleFits r (r .window) i slot d room
-  accepted-settles room d f e = done-settles room d f (rw e (settles-accepted (r .sc) (slotAt (r .window) i) slot))
+  pub accepted-settles : (ballot : ℕ) (room : List ℕ) (d : Decided) → DoneFits r i slot room → d ≡ decideAccepted (r .sc) (slotAt (r .window) i) slot ballot → SettleFits r (r .window) i slot d room
+  accepted-settles ballot room d f e = done-settles room d f (rw e (settles-accepted (r .sc) (slotAt (r .window) i) slot ballot))
 
 -- ── a refusal by the entry's handler gives no actions ──
 pub record Quiet (o : Outcome) : Type 0 where
@@ -340,24 +345,26 @@ unfolding replyOn
 reply-quiet r peer m =
     pick-both Quiet (not (eqb (m .ballot) (r .sc .«bal_prep_sent»))) (kept-quiet 0 r)
     (pick-both Quiet (not (leads (r .sc))) (kept-quiet 4 r)
+    (pick-both Quiet (isElsewhere (r .sc) m) (kept-quiet 0 r)
     (pick-both Quiet (not (inRange r m)) (kept-quiet 6 r)
     (pick-both Quiet (not (slotAt (r .window) (place (r .sc) (m .trigger)) .leader .present)) (kept-quiet 0 r)
     (pick-both Quiet (leb (r .sc .start + 64) (m .slot)) (kept-quiet 5 r)
     (orKept-quiet r
-    (repliedOn (tabled r peer (m .bar)) (appended r (place (r .sc) (m .slot)) (place (r .sc) (m .trigger))) (place (r .sc) (m .slot)) (place (r .sc) (m .trigger)) peer m
-    (appendActs r (place (r .sc) (m .slot)))))))))
+    (repliedOn (tabled r peer (m .bar)) (noted (r .sc) (appended r (place (r .sc) (m .slot)) (place (r .sc) (m .trigger))) (place (r .sc) (m .slot)) peer) (place (r .sc) (m .slot)) (place (r .sc) (m .trigger)) peer m
+    (appendActs r (place (r .sc) (m .slot))))))))))
 
 moved-quiet : (slot : ℕ) (o : Outcome) → Quiet o → Quiet (thenMoved slot o)
 moved-quiet slot o q = pick-both Quiet (not (eqb (o .answer) 0)) q (done-only _ _)
 
-pub done-quiet : (r : Replica) (i slot : ℕ) (e : Entry) → Quiet (doneOn r i slot e)
+pub done-quiet : (r : Replica) (i slot ballot : ℕ) (e : Entry) → Quiet (doneOn r i slot ballot e)
 unfolding preparedDone acceptedDone committedDone passOn
-done-quiet r i slot PrepareBal =
-    pick-both Quiet (leads (r .sc))
+done-quiet r i slot ballot PrepareBal =
+    pick-both Quiet (isStale (r .sc) (slotAt (r .window) i) ballot false) (kept-quiet 0 r)
+    (pick-both Quiet (leads (r .sc))
     (pick-both Quiet (slotAt (r .window) i .leader .present && leb slot (slotAt (r .window) i .leader .endprep)) (reply-quiet r _ _) (kept-quiet 0 r))
-    (settled-quiet r _ i slot _)
-done-quiet r i slot AcceptData = moved-quiet slot _ (settled-quiet r _ i slot _)
-done-quiet r i slot CommitSlot = pick-both Quiet (not (eqb slot (r .sc .«commit_bar»))) (kept-quiet 0 r) (done-only _ _)
+    (settled-quiet r _ i slot _))
+done-quiet r i slot ballot AcceptData = moved-quiet slot _ (settled-quiet r _ i slot _)
+done-quiet r i slot ballot CommitSlot = pick-both Quiet (not (eqb slot (r .sc .«commit_bar»))) (kept-quiet 0 r) (done-only _ _)
 
 -- ── the whole ──
 module _ (r : Replica) (i size : ℕ) where
@@ -413,7 +420,7 @@ module _ (r : Replica) (room : ℕ) (d : Done) where
 
         module _ (o : r .sc .«wal_offset» ≤ d .size) where
           abbrev handler : Outcome
-          handler = doneOn (loggedOn r (place (r .sc) (d .slot)) (d .size)) (place (r .sc) (d .slot)) (d .slot) (d .entry)
+          handler = doneOn (loggedOn r (place (r .sc) (d .slot)) (d .size)) (place (r .sc) (d .slot)) (d .slot) (d .ballot) (d .entry)
 
           goes : loggedStep r room d ≡ orKept r handler
           unfolding loggedStep
@@ -422,7 +429,7 @@ module _ (r : Replica) (room : ℕ) (d : Done) where
               ∙ rw (le-ltb (d .slot) (r .sc .start) h, lt-leb (logEnd r) (d .slot) k, le-ltb (d .size) (r .sc .«wal_offset») o)
 
           module _ (p : Replica) (q : p ≡ loggedOn r (place (r .sc) (d .slot)) (d .size)) {g : Handled} {before after : List ℕ}
-              (t : Told (summed (doneOn p (place (r .sc) (d .slot)) (d .slot) (d .entry))) g before after) where
+              (t : Told (summed (doneOn p (place (r .sc) (d .slot)) (d .slot) (d .ballot) (d .entry))) g before after) where
             handler-told : Told (summed handler) g before after
             handler-told = rw q at t
 
@@ -439,7 +446,7 @@ module _ (r : Replica) (room : ℕ) (d : Done) where
                 let u = handler-told in
                 let a : g .answer ≡ handler .answer = ap (λ (y : Handled). y .answer) (u .handed) in
                 let m : handler .answer ≡ 0 → ⊥ = λ z. n (a ∙ z) in
-                let quiet : handler .actions ≡ [] = done-quiet _ _ _ (d .entry) .none m in
+                let quiet : handler .actions ≡ [] = done-quiet _ _ _ _ (d .entry) .none m in
                 let e = goes ∙ ap (λ (b : Bool). pick b handler (kept (handler .answer) r)) (ne-eqb (handler .answer) 0 m) in
                 subst (λ (o : Outcome). Told o x before after) (sym (ap summed e ∙ summed-refused (handler .answer) r (ne-eqb (handler .answer) 0 m)))
                 (record { handed = c ∙ rw a; written = u .written ∙ ap (writeActions before) quiet })

@@ -1,5 +1,5 @@
 -- 002, durability.rs: log completions.
-use mathlib.Core.Bool.{not, _&&_}
+use mathlib.Core.Bool.{false, not, _&&_}
 use mathlib.Core.List.{List, [], _∷_, _++_}
 use Prim.Native.Nat.{ℕ, _+_}
 use lib.Dec.{ltb, leb, eqb}
@@ -12,7 +12,7 @@ use Rattle.slots.specs.declared.Slot.{Slot}
 use Rattle.slots.specs.Slots.{accepting, committed, loggedSlot, passedSlot}
 use Rattle.decide.specs.declared.Scalars.{Scalars}
 use Rattle.decide.specs.Scalars.{leads, notifies, withAcceptBar, withCommitBar, withLogSize}
-use Rattle.decide.specs.Decide.{decidePromised, decideAccepted}
+use Rattle.decide.specs.Decide.{decidePromised, isStale, decideAccepted}
 use Rattle.decide.specs.PrepareReply.{ownReply}
 use Rattle.window.specs.Window.{slotAt, putSlot, sweep}
 use Rattle.window.specs.Acts.{passActs}
@@ -30,12 +30,14 @@ entryNumber PrepareBal = 1
 entryNumber AcceptData = 2
 entryNumber CommitSlot = 3
 
--- the slot s stands at place i: the leader answers itself for slots up to its endprep, a follower answers the source
-unfoldable pub preparedDone : Replica → ℕ → ℕ → Slot → Outcome
-preparedDone r i slot s =
-    pick (leads (r .sc))
+-- the slot s stands at place i: the leader answers itself for slots up to its endprep, a follower answers the source; a strict replica's silence
+-- is `isStale`
+unfoldable pub preparedDone : Replica → ℕ → ℕ → ℕ → Slot → Outcome
+preparedDone r i slot ballot s =
+    pick (isStale (r .sc) s ballot false) (kept 0 r)
+    (pick (leads (r .sc))
     (pick (s .leader .present && leb slot (s .leader .endprep)) (replyOn r (r .sc .id) (ownReply (r .sc) s slot)) (kept 0 r))
-    (settled r (r .window) i slot (decidePromised (r .sc) s slot))
+    (settled r (r .window) i slot (decidePromised (r .sc) s slot)))
 
 -- "update index of the first non-accepting instance", where the slot logged is at accept_bar
 unfoldable pub movedAccept : Replica → ℕ → Replica
@@ -50,8 +52,8 @@ abbrev pub thenMoved : ℕ → Outcome → Outcome
 thenMoved slot o =
     pick (not (eqb (o .answer) 0)) o (record { answer = 0; replica = movedAccept (o .replica) slot; actions = o .actions })
 
-unfoldable pub acceptedDone : Replica → ℕ → ℕ → Slot → Outcome
-acceptedDone r i slot s = thenMoved slot (settled r (r .window) i slot (decideAccepted (r .sc) s slot))
+unfoldable pub acceptedDone : Replica → ℕ → ℕ → ℕ → Slot → Outcome
+acceptedDone r i slot ballot s = thenMoved slot (settled r (r .window) i slot (decideAccepted (r .sc) s slot ballot))
 
 -- "if I'm the leader and urgent CommitNotice is on", once the end of the log is committed
 abbrev pub noticeActs : Scalars → ℕ → ℕ → List Act
@@ -80,10 +82,10 @@ passStop r =
 unfoldable pub committedDone : Replica → ℕ → Outcome
 committedDone r slot = pick (not (eqb slot (r .sc .«commit_bar»))) (kept 0 r) (passOn r (place (r .sc) (r .sc .«commit_bar»)) (passStop r))
 
-abbrev pub doneOn : Replica → ℕ → ℕ → Entry → Outcome
-doneOn r i slot PrepareBal = preparedDone r i slot (slotAt (r .window) i)
-doneOn r i slot AcceptData = acceptedDone r i slot (slotAt (r .window) i)
-doneOn r i slot CommitSlot = committedDone r slot
+abbrev pub doneOn : Replica → ℕ → ℕ → ℕ → Entry → Outcome
+doneOn r i slot ballot PrepareBal = preparedDone r i slot ballot (slotAt (r .window) i)
+doneOn r i slot ballot AcceptData = acceptedDone r i slot ballot (slotAt (r .window) i)
+doneOn r i slot ballot CommitSlot = committedDone r slot
 
 -- "update first wal_offset of slot, then update self.wal_offset"
 unfoldable pub loggedOn : Replica → ℕ → ℕ → Replica
@@ -97,4 +99,4 @@ loggedStep r room d =
     (pick (ltb (d .slot) (r .sc .start)) (kept 0 r)
     (pick (leb (logEnd r) (d .slot)) (kept 4 r)
     (pick (ltb (d .size) (r .sc .«wal_offset»)) (kept 6 r)
-    (orKept r (doneOn (loggedOn r (place (r .sc) (d .slot)) (d .size)) (place (r .sc) (d .slot)) (d .slot) (d .entry))))))
+    (orKept r (doneOn (loggedOn r (place (r .sc) (d .slot)) (d .size)) (place (r .sc) (d .slot)) (d .slot) (d .ballot) (d .entry))))))

@@ -139,7 +139,7 @@ module _ (r : Replica) (w : Window) (trigger endprep ballot : ℕ) where
   pub lead-told : {room a b d z : List ℕ} {p : Placed} {book : LeaderBook} {s : Scalars} {t : PeerBars} → LeadFits r w trigger room
       → a ≡ putAct room 0 (bare StatusUp) → b ≡ putAct a 1 (bare Heartbeat) → book ≡ newBook trigger endprep
       → Swept (λ i s. redoneSlot ballot book s) (λ i s. redoActs (r .sc .start + i) ballot s) (r .sc .«exec_bar» - r .sc .start) (w .len) 2 w b p d
-      → z ≡ putAct d (p .next) (bare (Prepare (record { trigger = trigger; ballot = ballot }))) → s ≡ steppedUp (r .sc) ballot → t ≡ unknownBars (r .bars .own)
+      → z ≡ putAct d (p .next) (bare (Prepare (record { trigger = trigger; ballot = ballot }))) → s ≡ steppedUp (r .sc) trigger ballot → t ≡ unknownBars (r .bars .own)
       → Told (summed (leadOn r w trigger endprep ballot))
       (record { answer = 0; count = p .next + 1; replica = record { sc = s; bars = t; window = p .window; keys = r .keys; reads = r .reads; summary = record { first = trigger; accepting = 0 } } }) room z
   unfolding leadOn
@@ -160,7 +160,7 @@ module _ (r : Replica) (w : Window) (trigger endprep ballot : ℕ) where
       (u ∙ put-in d (p .next) _ (omega (arith, f, q .few)) (omega (arith, f .long))) in
       let e : Sums s (p .window) (record { first = trigger; accepting = 0 }) =
       rw (v, q .window)
-      (sums-steady (r .sc) (steppedUp (r .sc) ballot) _ _ refl refl
+      (sums-steady (r .sc) (steppedUp (r .sc) trigger ballot) _ _ refl refl
       (sums-redone (r .sc) w (r .summary) ballot book (r .sc .«exec_bar» - r .sc .start) (lead .named) (f .sum) (omega (arith, f .exec-commit, f .exec-low)))) in
       acted {o = leadOn r w trigger endprep ballot} ((two ++ redo) ++ ask) (record { sc = s; bars = t; window = p .window; keys = r .keys; reads = r .reads; summary = r .summary }) (record { first = trigger; accepting = 0 }) (p .next + 1) refl
       (omega (arith, q .next, length-append redo ask)) t4 (rw (v, m, q .window, k)) e

@@ -29,7 +29,7 @@ leadOn r w trigger endprep ballot =
       answer = 0;
       replica =
           record {
-            sc = steppedUp (r .sc) ballot;
+            sc = steppedUp (r .sc) trigger ballot;
             bars = unknownBars (r .bars .own);
             window = sweep (λ i s. redoneSlot ballot (newBook trigger endprep) s) (place (r .sc) (r .sc .«exec_bar»)) (w .len) w;
             keys = r .keys;

@@ -21,7 +21,7 @@ use Rattle.slots.specs.declared.ReplicaBook.{ReplicaBook}
 use Rattle.slots.specs.Slots.{preparedSlot, nullSlot}
 use Rattle.decide.specs.declared.Scalars.{Scalars}
 use Rattle.decide.specs.declared.Decided.{Decided}
-use Rattle.decide.specs.Scalars.{followed, stepsDown}
+use Rattle.decide.specs.Scalars.{strict, followed, stepsDown}
 use Rattle.decide.specs.Decide.{decideAccept, decideAcceptReply}
 use Rattle.decide.specs.Laws.{Steady, steady-followed, settles-accept, settles-reply}
 use Rattle.window.specs.declared.Window.{Window}
@@ -142,18 +142,18 @@ module _ (r : Replica) (w : Window) (from peer ballot top : ℕ) (e : top ≡ pr
   prepare-above h = rw (← e, ← f, h)
 
   -- as the code has it: the report, then the sweep from the place after it; the summary
-  pub prepare-told : {room mid after : List ℕ} {k below : ℕ} {p : Placed} {sc : Scalars} {u : Summary} → PrepareFits r w from room → b ≡ false → WroteDown (r .sc) ballot room k mid
-      → Swept (λ i s. preparedSlot ballot (bookTo (r .sc) from top peer) s) (λ i s. promise (number (r .sc) i) ballot ∷ []) from (top + 1) k w mid p after
-      → sc ≡ followed (r .sc) peer ballot → below ≡ countedIn w 2 (r .sc .«commit_bar» - r .sc .start) from → u ≡ preparedFrom (r .summary) (r .sc .start + from) below
+  pub prepare-told : {room mid after : List ℕ} {k below : ℕ} {p : Placed} {sc : Scalars} {u : Summary} {kind : Bool} → kind ≡ strict (r .sc) → PrepareFits r w from room → b ≡ false → WroteDown (r .sc) ballot room k mid
+      → Swept (λ i s. preparedSlot kind ballot (bookTo (r .sc) from top peer) s) (λ i s. promise (number (r .sc) i) ballot ∷ []) from (top + 1) k w mid p after
+      → sc ≡ followed (r .sc) peer ballot → below ≡ countedIn w 2 (r .sc .«commit_bar» - r .sc .start) from → u ≡ preparedFrom kind (r .summary) (r .sc .start + from) below
       → Told (summed (prepareOn r w from peer ballot)) (record { answer = 0; count = p .next; replica = withSummary (withWindow r sc (p .window)) u }) room after
   unfolding prepareOn
-  prepare-told {room} {mid} {after} {k} {below} {p} {sc} {u} fits h d s q n v =
+  prepare-told {room} {mid} {after} {k} {below} {p} {sc} {u} {kind} z fits h d s q n v =
       let down : List Act = downActs (r .sc) ballot in
       let rest : List Act = gather (λ i. promise (number (r .sc) i) ballot ∷ []) from (top + 1) in
       acted (down ++ rest) (withWindow r sc (p .window)) u (p .next) refl
       (s .next ∙ ap (λ (x : ℕ). x + length rest) (d .next) ∙ sym (length-append down rest))
       (write-then room mid after down rest 0 k (omega arith) (d .next ∙ sym (zero-add (length down))) (d .written) (s .written))
-      (rw (← e, ← f, h, s .window, q)) after-sums
+      (rw (← e, ← f, h, s .window, q, z)) after-sums
     where
       steady : Steady (r .sc) sc
       steady = rw q (steady-followed (r .sc) peer ballot)
@@ -165,7 +165,7 @@ module _ (r : Replica) (w : Window) (from peer ballot top : ℕ) (e : top ≡ pr
       after-sums =
           sums-steady (r .sc) sc (p .window) u (steady .start) (steady .commit)
           (rw (s .window, v)
-          (sums-prepared (r .sc) w (r .summary) ballot (bookTo (r .sc) from top peer) from (top + 1) (fits .sum) (omega (arith, larger-left from (lastUsed w))) (fits .here) past
+          (sums-prepared (r .sc) w (r .summary) kind ballot (bookTo (r .sc) from top peer) from (top + 1) (fits .sum) (omega (arith, larger-left from (lastUsed w))) (fits .here) past
           (n ∙ counted-in w 2 (r .sc .«commit_bar» - r .sc .start) from (omega (arith, fits .inside)))))
 
 -- ── Accept ──

@@ -13,16 +13,17 @@ use Rattle.actions.specs.declared.Action.the-variants.{StatusDown}
 use Rattle.actions.specs.Actions.{Act, bare}
 use Rattle.slots.specs.declared.ReplicaBook.{ReplicaBook}
 use Rattle.slots.specs.declared.Slot.{Slot}
-use Rattle.slots.specs.Slots.{newBook, preparedSlot, appendedSlot, enteredSlot}
+use Rattle.slots.specs.Slots.{newBook, preparedSlot, appendedSlot, notedSlot, enteredSlot}
 use Rattle.decide.specs.declared.Scalars.{Scalars}
 use Rattle.decide.specs.declared.Decided.{Decided}
 use Rattle.decide.specs.declared.Reply.{Reply}
-use Rattle.decide.specs.Scalars.{leads, isPeer, followed, stepsDown}
+use Rattle.decide.specs.Scalars.{leads, isPeer, strict, followed, stepsDown}
 use Rattle.decide.specs.Bars.{withBar, withFallen}
-use Rattle.decide.specs.Decide.{decideAccept, decideAcceptReply, awaitsPrepare, decideVote, isCounted, decideCount}
+use Rattle.decide.specs.Decide.{decideAccept, decideAcceptReply, goesOn, decideVote, isCounted, decideCount}
 use Rattle.decide.specs.PrepareReply.{inLog, withVoted}
 use Rattle.window.specs.declared.Window.{Window}
 use Rattle.window.specs.Window.{slotAt, putSlot, filled, grown, sweep, lastUsed}
+use Rattle.window.specs.Counting.{counts}
 use Rattle.window.specs.Acts.{promise, enterActs}
 use Rattle.replica.specs.declared.Replica.{Replica}
 use Rattle.replica.specs.Record.{Outcome, kept, noting, settled, withWindow, place, number, logEnd}
@@ -36,7 +37,8 @@ clean b = makeBatch (b .id) (b .count) (b .keys) .batch
 abbrev pub downActs : Scalars → ℕ → List Act
 downActs sc ballot = pick (stepsDown sc ballot) (bare StatusDown ∷ []) []
 
--- ── Prepare: "covers trigger to the larger of trigger and the last non-null slot, and puts even committed slots back to Preparing" ──
+-- ── Prepare: "covers trigger to the larger of trigger and the last non-null slot, and puts even committed slots back to Preparing" (in the base
+-- kind, `putBack`) ──
 abbrev pub prepareTop : Window → ℕ → ℕ
 prepareTop w from = larger from (lastUsed w)
 
@@ -51,7 +53,7 @@ prepareOn r w from peer ballot =
       answer = 0;
       replica =
           withWindow r (followed (r .sc) peer ballot)
-          (sweep (λ i s. preparedSlot ballot (prepareBook (r .sc) w from peer) s) from (prepareTop w from + 1) w);
+          (sweep (λ i s. preparedSlot (strict (r .sc)) ballot (prepareBook (r .sc) w from peer) s) from (prepareTop w from + 1) w);
       actions = downActs (r .sc) ballot ++ gather (λ i. promise (number (r .sc) i) ballot ∷ []) from (prepareTop w from + 1);
     })
 
@@ -76,34 +78,39 @@ appended r i j = filled (appendedAs r j) (r .window) (i + 1)
 abbrev pub appendActs : Replica → ℕ → List Act
 appendActs r i = gather (λ k. promise (number (r .sc) k) (r .sc .«bal_prep_sent») ∷ []) (r .window .len) (i + 1)
 
+-- the window in which the reply is noted at its slot
+abbrev pub noted : Scalars → Window → ℕ → ℕ → Window
+noted sc w i peer = putSlot w i (notedSlot (strict sc) peer (slotAt w i))
+
 -- the replica with a member's accept bar in its table
 abbrev pub tabled : Replica → ℕ → ℕ → Replica
 tabled r peer bar =
     record { sc = withFallen (r .sc) (r .bars) peer bar; bars = withBar (r .sc) (r .bars) peer bar; window = r .window; keys = r .keys; reads = r .reads; summary = r .summary }
 
 -- counted at the trigger slot, at place j of the window w: below the quorum only that is kept; at quorum the slots from there on enter Accept
+-- (02, Wish 6, (c): "Whenever the arriving member counts and a quorum is counted")
 unfoldable pub countedOn : Replica → Window → ℕ → ℕ → List Act → Decided → Outcome
 countedOn r w j ballot acts d =
     pick (not (eqb (d .answer) 0)) (kept (d .answer) r)
     (pick (not (isCounted (d .sc) (d .slot))) (record { answer = 0; replica = withWindow r (d .sc) (putSlot w j (d .slot)); actions = acts })
     (record {
       answer = 0;
-      replica = withWindow r (d .sc) (sweep (λ k s. enteredSlot s) j (w .len) (putSlot w j (d .slot)));
+      replica = withWindow r (d .sc) (sweep (λ k s. enteredSlot (strict (r .sc)) ballot s) j (w .len) (putSlot w j (d .slot)));
       actions = acts ++ gather (λ k. enterActs (number (r .sc) k) ballot (slotAt (putSlot w j (d .slot)) k)) j (w .len);
     }))
 
--- the vote is decided for the slot at place i; "a member counts on its reply for its own endprep slot"; around the rest 7, the last test
+-- the vote is decided for the slot at place i; the member counts, or it does not (`counts`); around the rest 7, the last test
 unfoldable pub votedOn : Replica → Window → ℕ → ℕ → ℕ → Reply → List Act → Decided → Outcome
 votedOn r w i j peer m acts d =
     pick (not (eqb (d .answer) 0)) (kept (d .answer) r)
     (noting r (d .noted) (m .slot) (d .slot .batch)
-    (pick (not (eqb (m .slot) (m .endprep))) (record { answer = 0; replica = withWindow r (d .sc) (putSlot w i (d .slot)); actions = acts })
+    (pick (not (counts (r .sc) w j peer m)) (record { answer = 0; replica = withWindow r (d .sc) (putSlot w i (d .slot)); actions = acts })
     (countedOn r (putSlot w i (d .slot)) j (m .ballot) acts (decideCount (r .sc) (slotAt (putSlot w i (d .slot)) j) peer (m .ballot)))))
 
--- the peer accept table is updated and the slot is present, at place i of the window w: "ignore spurious duplications and outdated replies"
+-- the peer accept table is updated, and the slot is present and the reply noted, at place i of the window w: "ignore spurious duplications and outdated replies"
 unfoldable pub repliedOn : Replica → Window → ℕ → ℕ → ℕ → Reply → List Act → Outcome
 repliedOn r w i j peer m acts =
-    pick (not (awaitsPrepare (slotAt w i) (m .ballot))) (record { answer = 0; replica = withWindow r (r .sc) w; actions = acts })
+    pick (not (goesOn (r .sc) (slotAt w i) (m .ballot))) (record { answer = 0; replica = withWindow r (r .sc) w; actions = acts })
     (votedOn r w i j peer m acts (decideVote (r .sc) (slotAt w i) (m .ballot) (m .voted) (m .vote)))
 
 -- `inLog` of a replica
@@ -114,6 +121,10 @@ inRange r m = inLog (r .sc .start) (r .window .len) m
 abbrev pub orKept : Replica → Outcome → Outcome
 orKept r o = pick (eqb (o .answer) 0) o (kept (o .answer) r)
 
+-- 02, Wish 6, (c): "A reply with another trigger is ignored, before 6."
+abbrev pub isElsewhere : Scalars → Reply → Bool
+isElsewhere sc m = strict sc && not (eqb (m .trigger) (sc .«lead_trigger»))
+
 -- from the test of the ballot on, as a leader's own log completion runs it too; "elsewhere it is 4 at any slot";
 -- "PrepareReply updates the peer accept table before the slot's status is looked at"
 unfoldable pub replyOn : Replica → ℕ → Reply → Outcome
@@ -122,10 +133,11 @@ replyOn r peer m =
     let j : ℕ = place (r .sc) (m .trigger) in
     pick (not (eqb (m .ballot) (r .sc .«bal_prep_sent»))) (kept 0 r)
     (pick (not (leads (r .sc))) (kept 4 r)
+    (pick (isElsewhere (r .sc) m) (kept 0 r)
     (pick (not (inRange r m)) (kept 6 r)
     (pick (not (slotAt (r .window) j .leader .present)) (kept 0 r)
     (pick (leb (r .sc .start + 64) (m .slot)) (kept 5 r)
-    (orKept r (repliedOn (tabled r peer (m .bar)) (appended r i j) i j peer m (appendActs r i)))))))
+    (orKept r (repliedOn (tabled r peer (m .bar)) (noted (r .sc) (appended r i j) i peer) i j peer m (appendActs r i))))))))
 
 -- `clean` of the batch that a reply's vote has
 abbrev pub cleanReply : Reply → Reply

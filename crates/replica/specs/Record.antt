@@ -48,6 +48,7 @@ freshScalars id group start options =
       «exec_bar» = start;
       «wal_offset» = 0;
       «peer_accept_max» = unknownBar;
+      «lead_trigger» = 0;
     }
 
 abbrev pub fresh : ℕ → ℕ → ℕ → ℕ → Replica
@@ -72,6 +73,7 @@ zeroReplica =
         «exec_bar» = 0;
         «wal_offset» = 0;
         «peer_accept_max» = 0;
+        «lead_trigger» = 0;
       };
       bars = record { own = false; bars = replicate 9 0 };
       window = noSlots;

@@ -9,6 +9,7 @@ use Rattle.base.specs.Gather.{gather}
 use Rattle.batch.specs.Keys.{refresh, overfull}
 use Rattle.actions.specs.Actions.{Act}
 use Rattle.slots.specs.Slots.{enteredSlot}
+use Rattle.decide.specs.Scalars.{strict}
 use Rattle.decide.specs.declared.PeerBars.{PeerBars}
 use Rattle.decide.specs.declared.Reply.{Reply}
 use Rattle.decide.specs.declared.Weighed.{Weighed}
@@ -18,7 +19,7 @@ use Rattle.window.specs.Acts.{enterActs}
 use Rattle.window.specs.SummaryLaws.{Sums}
 use Rattle.replica.specs.declared.Replica.{Replica}
 use Rattle.replica.specs.Record.{Outcome, kept}
-use Rattle.replica.specs.Messages.{tabled, appended, appendActs, repliedOn, orKept}
+use Rattle.replica.specs.Messages.{tabled, appended, noted, appendActs, repliedOn, orKept}
 
 -- what a function here may count on: a fit record's numbers, room for 192 actions, and a slot from start on
 pub record ReplyFits (r : Replica) (room : List ℕ) (m : Reply) : Type 0 where
@@ -57,7 +58,7 @@ carried r bars w i j m acts g =
       replica = record {
         sc = g .sc;
         bars = bars;
-        window = sweep (λ k s. enteredSlot s) j (sweptTo w j g) (placed w i j g);
+        window = sweep (λ k s. enteredSlot (strict (r .sc)) (m .ballot) s) j (sweptTo w j g) (placed w i j g);
         keys = pick (g .noted) (refresh (m .slot) (g .slot .batch) (r .keys)) (r .keys);
         reads = r .reads;
         summary = r .summary;
@@ -67,4 +68,4 @@ carried r bars w i j m acts g =
 
 -- replyOn past its tests
 unfoldable pub replyAt : Replica → ℕ → Reply → ℕ → ℕ → Outcome
-replyAt r peer m i j = orKept r (repliedOn (tabled r peer (m .bar)) (appended r i j) i j peer m (appendActs r i))
+replyAt r peer m i j = orKept r (repliedOn (tabled r peer (m .bar)) (noted (r .sc) (appended r i j) i peer) i j peer m (appendActs r i))

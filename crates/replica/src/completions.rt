@@ -61,7 +61,7 @@ impl Replica {
         let i = (done.slot - sc.start) as usize;
         let r = self.logged_on(i, done.size);
         let entry = done.entry;
-        let h = r.done_on(room, i, done.slot, entry);
+        let h = r.done_on(room, i, done.slot, done.ballot, entry);
         if h.answer != 0 {
             return self.kept(h.answer);
         }
@@ -85,25 +85,28 @@ impl Replica {
     }
 
     // The entry's handler, for the slot at place i.
-    fn done_on(self, room: &mut [u64], i: usize, slot: u64, entry: Entry) -> Handled
+    fn done_on(self, room: &mut [u64], i: usize, slot: u64, ballot: u64, entry: Entry) -> Handled
         requires { ⌜ DoneFits self i slot (now room) ⌝ }
-        ensures { λ r. ⌜ Told (summed (doneOn self i slot entry)) r (now (room .entry)) (now (room .exit)) ⌝ }
+        ensures { λ r. ⌜ Told (summed (doneOn self i slot ballot entry)) r (now (room .entry)) (now (room .exit)) ⌝ }
     {
         match entry {
-            Entry::PrepareBal => self.prepared_done(room, i, slot),
-            Entry::AcceptData => self.accepted_done(room, i, slot),
+            Entry::PrepareBal => self.prepared_done(room, i, slot, ballot),
+            Entry::AcceptData => self.accepted_done(room, i, slot, ballot),
             Entry::CommitSlot => self.committed_done(room, slot),
         }
     }
 
     // A PrepareBal is logged: a leader answers itself for slots up to its endprep, a follower the source.
-    fn prepared_done(self, room: &mut [u64], i: usize, slot: u64) -> Handled
+    fn prepared_done(self, room: &mut [u64], i: usize, slot: u64, ballot: u64) -> Handled
         requires { ⌜ DoneFits self i slot (now room) ⌝ }
-        ensures { λ r. ⌜ Told (summed (preparedDone self i slot (slotAt (self .window) i))) r (now (room .entry)) (now (room .exit)) ⌝ }
+        ensures { λ r. ⌜ Told (summed (preparedDone self i slot ballot (slotAt (self .window) i))) r (now (room .entry)) (now (room .exit)) ⌝ }
     {
         let sc = self.sc;
         let w = self.window;
         let s = w.slots[i];
+        if sc.is_stale(s, ballot, false) {
+            return self.kept(0);
+        }
         if sc.leader != sc.id {
             let d = sc.decide_promised(s, slot);
             return self.settle(room, w, i, slot, d);
@@ -119,14 +122,14 @@ impl Replica {
     }
 
     // An AcceptData is logged: a vote, told to the leader or counted by it, and accept_bar moves.
-    fn accepted_done(self, room: &mut [u64], i: usize, slot: u64) -> Handled
+    fn accepted_done(self, room: &mut [u64], i: usize, slot: u64, ballot: u64) -> Handled
         requires { ⌜ DoneFits self i slot (now room) ⌝ }
-        ensures { λ r. ⌜ Told (summed (acceptedDone self i slot (slotAt (self .window) i))) r (now (room .entry)) (now (room .exit)) ⌝ }
+        ensures { λ r. ⌜ Told (summed (acceptedDone self i slot ballot (slotAt (self .window) i))) r (now (room .entry)) (now (room .exit)) ⌝ }
     {
         let sc = self.sc;
         let w = self.window;
         let s = w.slots[i];
-        let d = sc.decide_accepted(s, slot);
+        let d = sc.decide_accepted(s, slot, ballot);
         let h = self.settle(room, w, i, slot, d);
         if h.answer != 0 {
             return h;

@@ -88,7 +88,7 @@ impl Replica {
         let count = n + 1;
         let window = p.window;
         self.window = window;
-        let leading = sc.stepped_up(ballot);
+        let leading = sc.stepped_up(trigger, ballot);
         self.sc = leading;
         let bars = unknown_bars(self.bars.own);
         self.bars = bars;

@@ -36,6 +36,7 @@ impl Replica {
                 exec_bar: 0,
                 wal_offset: 0,
                 peer_accept_max: 0,
+                lead_trigger: 0,
             };
             let bars = PeerBars {
                 own: false,
@@ -71,6 +72,7 @@ impl Replica {
             exec_bar: start,
             wal_offset: 0,
             peer_accept_max: 18446744073709551615,
+            lead_trigger: 0,
         };
         let bars = PeerBars {
             own: false,

@@ -82,7 +82,8 @@ impl Replica {
             endprep: endprep,
         };
         let k = put_down(room, sc, ballot);
-        let p = w.prepare_range(room, k, from, end, sc.start, ballot, book);
+        let strict = sc.strict();
+        let p = w.prepare_range(room, k, from, end, sc.start, strict, ballot, book);
         let next = p.window;
         self.window = next;
         let followed = sc.followed(peer, ballot);
@@ -90,7 +91,7 @@ impl Replica {
         let bar = (sc.commit_bar - sc.start) as usize;
         let below = w.count_at(2, bar, from);
         let known = self.summary;
-        let sum = known.prepared_from(trigger, below);
+        let sum = known.prepared_from(strict, trigger, below);
         self.summary = sum;
         Handled {
             answer: 0,

@@ -1,18 +1,30 @@
 // 000, messages.rs: PrepareReply. Everything is decided before the first action is written.
+ghost use mathlib.Core.Path.{_≡_};
 ghost use lib.ListN.{length};
 ghost use Rattle.replica.specs.Record.{summed};
-ghost use Rattle.replica.specs.Messages.{replyOn};
+ghost use Rattle.replica.specs.Messages.{isElsewhere, replyOn};
 ghost use Rattle.replica.specs.Step.{callPrepareReply, step, Told};
 ghost use Rattle.replica.specs.Replying.{replyAt, ReplyFits, PlacesFit};
 use super::Handled;
 use super::Replica;
 use batch::make;
 use decide::Reply;
+use decide::Scalars;
 use decide::bad_vote;
 use slots::new_book;
 use window::Summary;
 use window::larger_of;
 use window::put_promises;
+
+// Whether a strict leader ignores a reply: it names another trigger.
+fn is_elsewhere(sc: Scalars, m: Reply) -> bool
+    ensures { λ r. ⌜ r ≡ isElsewhere sc m ⌝ }
+{
+    if !sc.strict() {
+        return false;
+    }
+    m.trigger != sc.lead_trigger
+}
 
 impl Replica {
     // A PrepareReply from a peer.
@@ -50,6 +62,9 @@ impl Replica {
         if !sc.leads() {
             return self.kept(4);
         }
+        if is_elsewhere(sc, m) {
+            return self.kept(0);
+        }
         let w = self.window;
         if !m.is_in_log(sc.start, w.len) {
             return self.kept(6);
@@ -81,11 +96,15 @@ impl Replica {
         let book = new_book(trigger, known.leader.endprep);
         let end = i + 1;
         let mut w = old.append(end, sc.bal_prep_sent, book);
-        let s = w.slots[i];
+        let strict = sc.strict();
+        let heard = w.slots[i];
+        let s = heard.noted(strict, peer);
+        w.slots[i] = s;
         let t = w.slots[j];
         let fallen = bars.with_fallen(sc, peer, m.bar);
+        let counts = w.counts(fallen, j, peer, m);
         let own = i == j;
-        let g = fallen.weigh(s, t, own, peer, m);
+        let g = fallen.weigh(s, t, own, counts, peer, m);
         if g.answer != 0 {
             return self.kept(g.answer);
         }
@@ -115,7 +134,7 @@ impl Replica {
             };
         }
         let to = w.len;
-        let p = w.enter_range(room, k, j, to, sc.start, m.ballot);
+        let p = w.enter_range(room, k, j, to, sc.start, strict, m.ballot);
         let window = p.window;
         self.window = window;
         let bar = (sc.commit_bar - sc.start) as usize;

@@ -2,7 +2,7 @@
 ghost use mathlib.Core.Path.{_≡_};
 ghost use Rattle.slots.specs.Slots.{noVote, nullSlot, newBook, sourced};
 ghost use Rattle.slots.specs.Slots.{withState, withBatch, withVote, withLeader, withReplica, withExternal, withOffset};
-ghost use Rattle.slots.specs.Slots.{preparedSlot, redoneSlot, appendedSlot, adoptedSlot, countedSlot, enteredSlot, acceptedSlot};
+ghost use Rattle.slots.specs.Slots.{putBack, preparedSlot, redoneSlot, appendedSlot, adoptedSlot, notedSlot, lacksNote, countedSlot, ownVoted, enteredSlot, acceptedSlot};
 ghost use Rattle.slots.specs.Slots.{acknowledgedSlot, committedSlot, markedSlot, passedSlot, executedSlot, loggedSlot, offeredSlot, fitSlot};
 use batch::Batch;
 use batch::empty_batch;
@@ -32,6 +32,7 @@ pub struct LeaderBook {
     pub prepare_acks: u64,
     pub prepare_max_bal: u64,
     pub accept_acks: u64,
+    pub notes: u64,
 }
 
 // What a follower keeps of a slot: whom it answers.
@@ -82,6 +83,7 @@ pub fn null_slot() -> Slot
             prepare_acks: 0,
             prepare_max_bal: 0,
             accept_acks: 0,
+            notes: 0,
         },
         replica: ReplicaBook {
             present: false,
@@ -105,6 +107,7 @@ pub fn new_book(trigger: u64, endprep: u64) -> LeaderBook
         prepare_acks: 0,
         prepare_max_bal: 0,
         accept_acks: 0,
+        notes: 0,
     }
 }
 
@@ -185,11 +188,25 @@ impl Slot {
 
 // What a call makes of a slot.
 impl Slot {
-    // Prepare: Preparing at the ballot, whatever it was, with the bookkeeping of who asked.
-    pub fn prepared(self, ballot: u64, book: ReplicaBook) -> Slot
-        ensures { λ r. ⌜ r ≡ preparedSlot ballot book self ⌝ }
+    // The status that Prepare or Accept gives; a strict replica's committed slot keeps its own.
+    fn put_back(self, strict: bool, status: u64) -> u64
+        ensures { λ r. ⌜ r ≡ putBack strict status self ⌝ }
     {
-        self.with_state(ballot, PREPARING).with_replica(book)
+        if !strict {
+            return status;
+        }
+        if self.status < COMMITTED {
+            return status;
+        }
+        self.status
+    }
+
+    // Prepare: Preparing at the ballot, with the bookkeeping of who asked.
+    pub fn prepared(self, strict: bool, ballot: u64, book: ReplicaBook) -> Slot
+        ensures { λ r. ⌜ r ≡ preparedSlot strict ballot book self ⌝ }
+    {
+        let status = self.put_back(strict, PREPARING);
+        self.with_state(ballot, status).with_replica(book)
     }
 
     // A step-up: an executed slot stays, a committed one becomes external, any other is prepared anew.
@@ -219,6 +236,28 @@ impl Slot {
         self
     }
 
+    // PrepareReply at a strict leader: a member has answered for this slot.
+    pub fn noted(mut self, strict: bool, peer: u64) -> Slot
+        ensures { λ r. ⌜ r ≡ notedSlot strict peer self ⌝ }
+    {
+        if !strict {
+            return self;
+        }
+        let notes = members::with(self.leader.notes, peer);
+        self.leader.notes = notes;
+        self
+    }
+
+    // Whether it is Preparing and a member has not answered for it.
+    pub fn lacks_note(self, peer: u64) -> bool
+        ensures { λ r. ⌜ r ≡ lacksNote peer self ⌝ }
+    {
+        if self.status != PREPARING {
+            return false;
+        }
+        !members::contains(self.leader.notes, peer)
+    }
+
     // PrepareReply: a member counts, at the trigger slot.
     pub fn counted(mut self, peer: u64) -> Slot
         ensures { λ r. ⌜ r ≡ countedSlot peer self ⌝ }
@@ -228,27 +267,44 @@ impl Slot {
         self
     }
 
-    // At the quorum a Preparing slot enters Accept.
-    pub fn entered(self) -> Slot
-        ensures { λ r. ⌜ r ≡ enteredSlot self ⌝ }
+    // A strict leader's vote is its own proposal.
+    fn own_voted(self, strict: bool, ballot: u64) -> Slot
+        ensures { λ r. ⌜ r ≡ ownVoted strict ballot self ⌝ }
+    {
+        if !strict {
+            return self;
+        }
+        let batch = self.batch;
+        let vote = Vote {
+            ballot: ballot,
+            batch: batch,
+        };
+        self.with_vote(vote)
+    }
+
+    // At the quorum a Preparing slot enters Accept, with an accept entry at a ballot.
+    pub fn entered(self, strict: bool, ballot: u64) -> Slot
+        ensures { λ r. ⌜ r ≡ enteredSlot strict ballot self ⌝ }
     {
         if self.status == PREPARING {
-            return self.with_state(self.ballot, ACCEPTING);
+            return self.with_state(self.ballot, ACCEPTING)
+                .own_voted(strict, ballot);
         }
         self
     }
 
-    // Accept: Accepting at the ballot, whatever it was, with the batch as its own and as its vote.
-    pub fn accepted(self, peer: u64, ballot: u64, batch: Batch) -> Slot
-        ensures { λ r. ⌜ r ≡ acceptedSlot peer ballot batch self ⌝ }
+    // Accept: Accepting at the ballot, with the batch as its own and as its vote.
+    pub fn accepted(self, strict: bool, peer: u64, ballot: u64, batch: Batch) -> Slot
+        ensures { λ r. ⌜ r ≡ acceptedSlot strict peer ballot batch self ⌝ }
     {
+        let status = self.put_back(strict, ACCEPTING);
         let known = self.replica;
         let book = known.sourced(peer);
         let vote = Vote {
             ballot: ballot,
             batch: batch,
         };
-        self.with_state(ballot, ACCEPTING)
+        self.with_state(ballot, status)
             .with_batch(batch)
             .with_replica(book)
             .with_vote(vote)
@@ -326,7 +382,10 @@ impl Slot {
         if !members::within(self.leader.prepare_acks, group) {
             return false;
         }
-        members::within(self.leader.accept_acks, group)
+        if !members::within(self.leader.accept_acks, group) {
+            return false;
+        }
+        members::within(self.leader.notes, group)
     }
 }
 
@@ -338,8 +397,8 @@ pub fn appended_slot(ballot: u64, book: LeaderBook) -> Slot
 }
 
 // A slot that an offer appends.
-pub fn offered_slot(ballot: u64, batch: Batch) -> Slot
-    ensures { λ r. ⌜ r ≡ offeredSlot ballot batch ⌝ }
+pub fn offered_slot(strict: bool, ballot: u64, batch: Batch) -> Slot
+    ensures { λ r. ⌜ r ≡ offeredSlot strict ballot batch ⌝ }
 {
     let book = new_book(0, 0);
     null_slot()
@@ -347,4 +406,5 @@ pub fn offered_slot(ballot: u64, batch: Batch) -> Slot
         .with_external()
         .with_batch(batch)
         .with_leader(book)
+        .own_voted(strict, ballot)
 }

@@ -1,4 +1,4 @@
-// `S` and 18 numbers; `F` and the summary's two; `P` member bar, for each entry of the peer accept table.
+// `S` and 18 numbers, 19 for a strict replica; `F` and the summary's two; `P` member bar, for each entry of the peer accept table.
 ghost use Prim.Native.Nat.{_<_};
 use crate::text::line;
 use crate::text::number_of;
@@ -6,18 +6,12 @@ use decide::PeerBars;
 use decide::Scalars;
 use window::Summary;
 
-pub(crate) fn numbers(
-    text: &mut [u8],
-    at: usize,
-    sc: Scalars,
-    slots: usize,
-    keys: usize,
-    reads: usize,
-) -> usize {
+// The numbers, with those of slots, keys and reads; the last, of the strict kind alone, is the leader's trigger.
+fn numbers_row(sc: Scalars, slots: usize, keys: usize, reads: usize) -> [u64; 19] {
     let quorum = sc.quorum();
     let urgent = number_of(sc.urgent());
     let disallowed = number_of(sc.disallowed());
-    let row = [
+    [
         sc.id,
         sc.group,
         quorum,
@@ -36,8 +30,23 @@ pub(crate) fn numbers(
         slots as u64,
         keys as u64,
         reads as u64,
-    ];
-    line(text, at, b'S', &row)
+        sc.lead_trigger,
+    ]
+}
+
+pub(crate) fn numbers(
+    text: &mut [u8],
+    at: usize,
+    sc: Scalars,
+    slots: usize,
+    keys: usize,
+    reads: usize,
+) -> usize {
+    let row = numbers_row(sc, slots, keys, reads);
+    if sc.strict() {
+        return line(text, at, b'S', &row);
+    }
+    line(text, at, b'S', &row[0..18])
 }
 
 // The summary, asked as a host asks it.

@@ -29,7 +29,7 @@ fn state(text: &mut [u8], at: usize, r: Replica) -> usize {
     let f = numbers(text, at, sc, window.len, table.count, open.count);
     let p = summary(text, f, known);
     let i = bars(text, p, sc, entries);
-    let k = slots(text, i, sc.start, window);
+    let k = slots(text, i, sc, window);
     let q = keys(text, k, table);
     reads(text, q, open)
 }

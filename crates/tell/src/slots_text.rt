@@ -1,7 +1,8 @@
-// `I` and 36 numbers for each slot.
+// `I` and 36 numbers for each slot, 37 for a strict replica's.
 use crate::text::line;
 use crate::text::number_of;
 use batch::Batch;
+use decide::Scalars;
 use slots::LeaderBook;
 use slots::ReplicaBook;
 use slots::Slot;
@@ -46,7 +47,8 @@ fn batch_row(b: Batch) -> [u64; 10] {
     ]
 }
 
-fn slot_row(slot: u64, s: Slot) -> [u64; 36] {
+// The slot's numbers; the last, of the strict kind alone, is the members noted.
+fn slot_row(slot: u64, s: Slot) -> [u64; 37] {
     let external = number_of(s.external);
     let batch = s.batch;
     let b = batch_row(batch);
@@ -94,23 +96,28 @@ fn slot_row(slot: u64, s: Slot) -> [u64; 36] {
         f[1],
         f[2],
         f[3],
+        leader.notes,
     ]
 }
 
-fn slot_line(text: &mut [u8], at: usize, slot: u64, s: Slot, present: bool) -> usize {
+fn slot_line(text: &mut [u8], at: usize, strict: bool, slot: u64, s: Slot, present: bool) -> usize {
     if !present {
         return at;
     }
     let row = slot_row(slot, s);
-    line(text, at, b'I', &row)
+    if strict {
+        return line(text, at, b'I', &row);
+    }
+    line(text, at, b'I', &row[0..36])
 }
 
-pub(crate) fn slots(text: &mut [u8], at: usize, start: u64, w: Window) -> usize {
+pub(crate) fn slots(text: &mut [u8], at: usize, sc: Scalars, w: Window) -> usize {
+    let strict = sc.strict();
     let mut next = at;
     for i in 0..64 {
-        let slot = std::num::wrapping_add_u64(start, i as u64);
+        let slot = std::num::wrapping_add_u64(sc.start, i as u64);
         let s = w.slots[i];
-        next = slot_line(text, next, slot, s, i < w.len);
+        next = slot_line(text, next, strict, slot, s, i < w.len);
     }
     next
 }

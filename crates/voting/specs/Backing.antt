@@ -15,7 +15,7 @@ use Rattle.batch.specs.declared.Batch.{Batch}
 use Rattle.slots.specs.declared.Slot.{Slot}
 use Rattle.slots.specs.Slots.{nullSlot, newBook, redoneSlot, preparing, committed, executed, withState, withLeader, withExternal, enteredSlot, markedSlot, passedSlot, loggedSlot, acknowledgedSlot}
 use Rattle.decide.specs.declared.Reply.{Reply}
-use Rattle.decide.specs.Scalars.{leads}
+use Rattle.decide.specs.Scalars.{leads, strict}
 use Rattle.decide.specs.Decide.{decideOffer}
 use Rattle.window.specs.declared.Window.{Window}
 use Rattle.window.specs.Window.{slotAt, putSlot, firstOpen}
@@ -32,7 +32,7 @@ use Rattle.replica.specs.Added.{movedExec}
 use Rattle.replica.specs.Step.{Call, callPrepare, callPrepareReply, callAccept, callAcceptReply, callCommitNotice, callTimeout, callLogged, callOffer, callExecuted, callOpenRead, callReadReply, step}
 use Rattle.laws.specs.OfFit.{fit-facts}
 use Rattle.laws.specs.WaysMessages.{Replies, prepareStep-ways, acceptStep-ways, acceptReplyStep-ways, repliedSlot}
-use Rattle.laws.specs.WaysReply.{replyWindow, replySlot, heardWindow, countedWindow, triggerSlot, Answers, reply-place}
+use Rattle.laws.specs.WaysReply.{grownWindow, replyWindow, replySlot, heardWindow, countedWindow, triggerSlot, Answers, reply-place}
 use Rattle.laws.specs.WaysLeadership.{leadWindow, leadTrigger, leadEnd, leadFrom, led, Leads, timeoutStep-ways, markWindow, markFrom, markEnd, commitNoticeStep-ways, leads-up}
 use Rattle.laws.specs.WaysDurability.{completion, logged, Logs, passFrom}
 use Rattle.laws.specs.WaysAdded.{offerWindow, Offers, offered, offerStep-ways, executedStep-ways}
@@ -137,20 +137,24 @@ module _ (r : Replica) (P A : ℕ → Type 0) (i : ℕ) where
   also sent x y e f b = subst (Backed r P A i sent) (sym e) (f (sym (ap (λ (z : Standing). z .ballot) e) ∙ b))
 
 -- ── a PrepareReply, also a leader's own ──
-pub heard-same : (r : Replica) (m : Reply) (i : ℕ) → standing (atPlace (heardWindow r m) i) ≡ standing (atPlace (replyWindow r m) i)
-heard-same r m i = put-keeps standing (replyWindow r m) (place (r .sc) (m .slot)) i _ (heard-keeps standing (replySlot r m) m refl)
+pub heard-same : (r : Replica) (peer : ℕ) (m : Reply) (i : ℕ) → standing (atPlace (heardWindow r peer m) i) ≡ standing (atPlace (replyWindow r peer m) i)
+heard-same r peer m i = put-keeps standing (replyWindow r peer m) (place (r .sc) (m .slot)) i _ (heard-keeps standing (replySlot r peer m) m refl)
 
 pub entered-same : (r : Replica) (peer : ℕ) (m : Reply) (i : ℕ) → standing (atPlace (enteredWindow r peer m) i) ≡ standing (atPlace (countedWindow r peer m) i)
 entered-same r peer m i =
-    sweep-keeps standing (λ k s. enteredSlot s) (λ k s. entered-keeps standing (λ s n. refl) s) (place (r .sc) (m .trigger)) (countedWindow r peer m .len) (countedWindow r peer m) i
+    sweep-keeps standing (λ k s. enteredSlot (strict (r .sc)) (m .ballot) s) (λ k s. entered-keeps standing (λ s n. refl) (strict (r .sc)) (m .ballot) (λ s. refl) s) (place (r .sc) (m .trigger)) (countedWindow r peer m .len) (countedWindow r peer m) i
+
+-- a note is none of these
+pub noted-same : (r : Replica) (peer : ℕ) (m : Reply) (i : ℕ) → standing (atPlace (replyWindow r peer m) i) ≡ standing (atPlace (grownWindow r m) i)
+noted-same r peer m i = put-keeps standing (grownWindow r m) (place (r .sc) (m .slot)) i _ refl
 
 -- the trigger slot is in the log: what it has before the member is counted is what it had
-pub trigger-same : (r : Replica) (m : Reply) → place (r .sc) (m .trigger) < r .window .len → Whole (r .window) → Answers r m
-    → standing (triggerSlot r m) ≡ stands r (place (r .sc) (m .trigger))
-trigger-same r m l h f =
+pub trigger-same : (r : Replica) (peer : ℕ) (m : Reply) → place (r .sc) (m .trigger) < r .window .len → Whole (r .window) → Answers r m
+    → standing (triggerSlot r peer m) ≡ stands r (place (r .sc) (m .trigger))
+trigger-same r peer m l h f =
     let j : ℕ = place (r .sc) (m .trigger) in
     let wide = appended-low r (place (r .sc) (m .slot)) j in
-    ap standing (sym (at-here (heardWindow r m) j (omega arith))) ∙ heard-same r m j
+    ap standing (sym (at-here (heardWindow r peer m) j (omega arith))) ∙ heard-same r peer m j ∙ noted-same r peer m j
     ∙ appended-cases (λ (x : Slot). standing x ≡ stands r j) r (place (r .sc) (m .slot)) j j (let u = reply-place r m f in omega arith) (λ z. absurd (omega arith)) refl
 
 module _ (r : Replica) (peer : ℕ) (m : Reply) (P A : ℕ → Type 0) (i : ℕ) (h : Whole (r .window)) (by : Answers r m → i ≡ place (r .sc) (m .trigger) → P peer) where
@@ -160,21 +164,22 @@ module _ (r : Replica) (peer : ℕ) (m : Reply) (P A : ℕ → Type 0) (i : ℕ)
   abbrev OfWindow : Window → Type 0
   OfWindow w = atPlace w i .ballot ≡ sent → Backed r P A i sent (standing (atPlace w i))
 
-  wide : Answers r m → OfWindow (replyWindow r m)
+  wide : Answers r m → OfWindow (replyWindow r peer m)
   wide f =
-      appended-cases (λ (x : Slot). x .ballot ≡ sent → Backed r P A i sent (standing x)) r (place (r .sc) (m .slot)) (place (r .sc) (m .trigger)) i
-      (let u = reply-place r m f in omega arith) (λ l b. starts r P A i sent _ refl refl) (λ b. stays r P A i _ refl (f .leading) b)
+      also r P A i sent _ _ (noted-same r peer m i)
+      (appended-cases (λ (x : Slot). x .ballot ≡ sent → Backed r P A i sent (standing x)) r (place (r .sc) (m .slot)) (place (r .sc) (m .trigger)) i
+      (let u = reply-place r m f in omega arith) (λ l b. starts r P A i sent _ refl refl) (λ b. stays r P A i _ refl (f .leading) b))
 
-  heard-at : Answers r m → OfWindow (heardWindow r m)
-  heard-at f = also r P A i sent _ _ (heard-same r m i) (wide f)
+  heard-at : Answers r m → OfWindow (heardWindow r peer m)
+  heard-at f = also r P A i sent _ _ (heard-same r peer m i) (wide f)
 
   counted-at : Answers r m → OfWindow (countedWindow r peer m)
   counted-at f =
-      put-cases (heardWindow r m) (place (r .sc) (m .trigger)) _ (λ (x : Slot). x .ballot ≡ sent → Backed r P A i sent (standing x)) i
+      put-cases (heardWindow r peer m) (place (r .sc) (m .trigger)) _ (λ (x : Slot). x .ballot ≡ sent → Backed r P A i sent (standing x)) i
       (λ e l b.
-      let same : standing (atPlace (heardWindow r m) i) ≡ standing (triggerSlot r m) =
-      ap (λ (k : ℕ). standing (atPlace (heardWindow r m) k)) e ∙ ap standing (at-here (heardWindow r m) (place (r .sc) (m .trigger)) (omega arith)) in
-      counts r P A i sent (standing (triggerSlot r m)) (also r P A i sent _ _ (sym same) (heard-at f) b) peer refl (by f e))
+      let same : standing (atPlace (heardWindow r peer m) i) ≡ standing (triggerSlot r peer m) =
+      ap (λ (k : ℕ). standing (atPlace (heardWindow r peer m) k)) e ∙ ap standing (at-here (heardWindow r peer m) (place (r .sc) (m .trigger)) (omega arith)) in
+      counts r P A i sent (standing (triggerSlot r peer m)) (also r P A i sent _ _ (sym same) (heard-at f) b) peer refl (by f e))
       (λ out b. heard-at f b)
 
   reply-backed : ReplyWays (backed r P A i) r peer m
@@ -268,10 +273,10 @@ module _ (r : Replica) (d : Done) (i : ℕ) (P A : ℕ → Type 0) (g : Good (r 
             map-reply (backed (logged r d) P A i) (backed r P A i) (logged r d) (r .sc .id) (ownAnswer r d)
             (λ a sc w acts h l b. before-offsets r d P A i _ _ (h l b))
             (reply-backed (logged r d) (r .sc .id) (ownAnswer r d) P A i (whole-put (r .window) (place (r .sc) (d .slot)) _ (g .whole)) (λ _ _. prep z));
-        promised = λ z n l b. stays r P A i _ e l b;
-        acked = λ z l b. acked-at r P A i (logged r d .window) (place (r .sc) (d .slot)) (r .sc .id) _ e l (λ q _. acc z (low q)) refl b;
-        commits = λ z a q l b. acked-at r P A i (logged r d .window) (place (r .sc) (d .slot)) (r .sc .id) _ e l (λ q _. acc z (low q)) refl b;
-        answered = λ z n l b. stays r P A i _ e l b;
+        promised = λ z _ n l b. stays r P A i _ e l b;
+        acked = λ z _ l b. acked-at r P A i (logged r d .window) (place (r .sc) (d .slot)) (r .sc .id) _ e l (λ q _. acc z (low q)) refl b;
+        commits = λ z _ a q l b. acked-at r P A i (logged r d .window) (place (r .sc) (d .slot)) (r .sc .id) _ e l (λ q _. acc z (low q)) refl b;
+        answered = λ z _ n l b. stays r P A i _ e l b;
         passes = λ z l b.
             stays r P A i _
             (sweep-keeps standing (λ k v. passedSlot v) (λ k v. passed-keeps standing (λ s n. refl) v) (passFrom (logged r d)) (passStop (logged r d)) (logged r d .window) i ∙ e) l b;

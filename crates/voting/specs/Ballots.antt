@@ -68,10 +68,10 @@ step-up-ballot r room c = go c
         (λ f. record {
           only = λ u. same;
           own = λ e o. record { passed = λ f t. same; heard = λ f t. same; counted = λ f t. same; entered = λ f t q. same };
-          promised = λ e n. same;
-          acked = λ e. same;
-          commits = λ e a q. same;
-          answered = λ e n. same;
+          promised = λ e _ n. same;
+          acked = λ e _. same;
+          commits = λ e _ a q. same;
+          answered = λ e _ n. same;
           passes = λ e. same;
         })
     go (callOffer b) = offerStep-ways (of (sentAnew r)) r room b (λ a l. same) (λ f. same)

@@ -18,9 +18,10 @@ use Rattle.actions.specs.Actions.{flat, bare}
 use Rattle.slots.specs.declared.Slot.{Slot}
 use Rattle.slots.specs.Slots.{noVote, nullSlot, preparing, accepting, preparedSlot, fitSlot}
 use Rattle.decide.specs.declared.Reply.{Reply}
-use Rattle.decide.specs.Scalars.{leads, isPeer, fitScalars}
+use Rattle.decide.specs.Scalars.{leads, isPeer, strict, fitScalars}
 use Rattle.decide.specs.Bars.{notAbove, leastMajority, withBar, withFallen}
 use Rattle.decide.specs.Decide.{decideAccept, decideAcceptReply, decideVote, decideCount, decidePromised, decideAccepted, decideOffer}
+use Rattle.window.specs.Counting.{counts}
 use Rattle.window.specs.Window.{slotAt, fitSlots, lastUsed, firstOpen, lastOpen, markStop, filled}
 use Rattle.window.specs.Places.{filled-has, filled-most}
 use Rattle.window.specs.ByPlace.{atPlace, put-at, sweep-at}
@@ -40,7 +41,7 @@ use Rattle.laws.specs.WaysLeadership.{leadWindow, leadTrigger, leadFrom, timeou
 use Rattle.laws.specs.WaysDurability.{completion}
 use Rattle.voting.specs.Paper.{answersPrepare, mayAccept}
 use Rattle.voting.specs.Windows.{Whole, whole-grown}
-use Rattle.voting.specs.Promises.{PrepareActs, AcceptActs, takenEntry, acceptHigh, accept-told}
+use Rattle.voting.specs.Promises.{PrepareActs, AcceptActs, takenEntry, acceptOther, acceptHigh, accept-told}
 use Rattle.voting.specs.Reached.{Good, reached-prepare-iff, reached-accept-iff}
 use Rattle.voting.specs.Votes.{voteOf, vote-step}
 use Rattle.base.specs.Among.{_∈_}
@@ -76,22 +77,22 @@ prepare-as-paper r g room peer slot ballot f p o l u =
     join (inl t) = let z = ltb-true (r .sc .«bal_max_seen») ballot t in omega arith
     join (inr e) = omega arith
 
--- 2.2, P1a: an Accept is as the paper's, where the key table has room (7)
+-- 2.2, P1a: an Accept is as the paper's, where the key table has room (7) and it names no other batch for a slot that a strict replica has committed (15)
 pub accept-as-paper : (r : Replica) (g : Good (r .sc) (r .window)) (room peer slot ballot : ℕ) (f : ready r room ≡ true) (p : isPeer (r .sc) peer ≡ true)
-    (o : owns ballot peer ≡ true) (l : r .sc .start ≤ slot) (u : slot < r .sc .start + 64) (b : Batch) (q : isBatch (b .id) (b .count) ≡ true) → overfull (r .keys) (clean b) ≡ false
-    → AcceptActs r room peer slot ballot b f p o q l u ↔ (mayAccept (r .sc .«bal_max_seen») ballot ≡ true)
-accept-as-paper r g room peer slot ballot f p o l u b q k = (
-  λ a. le-leb (r .sc .«bal_max_seen») ballot (reached-accept-iff r g room peer slot ballot f p o l u b q k .0 a),
-  λ t. reached-accept-iff r g room peer slot ballot f p o l u b q k .1 (leb-true (r .sc .«bal_max_seen») ballot t),
+    (o : owns ballot peer ≡ true) (l : r .sc .start ≤ slot) (u : slot < r .sc .start + 64) (b : Batch) (q : isBatch (b .id) (b .count) ≡ true) → acceptOther r slot b ≡ false
+    → overfull (r .keys) (clean b) ≡ false → AcceptActs r room peer slot ballot b f p o q l u ↔ (mayAccept (r .sc .«bal_max_seen») ballot ≡ true)
+accept-as-paper r g room peer slot ballot f p o l u b q n k = (
+  λ a. le-leb (r .sc .«bal_max_seen») ballot (reached-accept-iff r g room peer slot ballot f p o l u b q n k .0 a),
+  λ t. reached-accept-iff r g room peer slot ballot f p o l u b q n k .1 (leb-true (r .sc .«bal_max_seen») ballot t),
 )
 
 -- ── 2.2, phase 2: a leader that enters Accept, or offers, sets no vote of its own: no slot's vote changes ──
-pub reply-sets-no-vote : (r : Replica) (room peer : ℕ) (m : Reply) (s : ℕ) → Whole (r .window) → r .sc .start ≤ s
+pub reply-sets-no-vote : (r : Replica) (room peer : ℕ) (m : Reply) (s : ℕ) → Whole (r .window) → strict (r .sc) ≡ false → r .sc .start ≤ s
     → voteOf (step r room (callPrepareReply peer m) .replica) s ≡ voteOf r s
-reply-sets-no-vote r room peer m s h l = vote-step r (record { room = room; call = callPrepareReply peer m }) s h l
+reply-sets-no-vote r room peer m s h base l = vote-step r (record { room = room; call = callPrepareReply peer m }) s h base l
 
-pub offer-sets-no-vote : (r : Replica) (room : ℕ) (b : Batch) (s : ℕ) → Whole (r .window) → r .sc .start ≤ s → voteOf (step r room (callOffer b) .replica) s ≡ voteOf r s
-offer-sets-no-vote r room b s h l = vote-step r (record { room = room; call = callOffer b }) s h l
+pub offer-sets-no-vote : (r : Replica) (room : ℕ) (b : Batch) (s : ℕ) → Whole (r .window) → strict (r .sc) ≡ false → r .sc .start ≤ s → voteOf (step r room (callOffer b) .replica) s ≡ voteOf r s
+offer-sets-no-vote r room b s h base l = vote-step r (record { room = room; call = callOffer b }) s h base l
 
 -- ── 2.5: a leader's Prepare leaves in the call that asks for its own entries, before they are durable ──
 abbrev asks : Replica → Claim
@@ -117,9 +118,9 @@ deposed-4 r room peer m f p v l b d =
     rw (f, p, v, le-ltb (m .slot) (r .sc .start) l, eq-eqb (m .ballot) (r .sc .«bal_prep_sent») b, d)
 
 -- ── 2.3: a learner forgets: a Prepare or an Accept that acts puts its slot back, whatever its status, Committed and Executed too ──
-pub prepare-puts-back : (r : Replica) (room peer trigger ballot : ℕ) → Whole (r .window) → promise trigger ballot ∈ step r room (callPrepare peer trigger ballot) .actions
+pub prepare-puts-back : (r : Replica) (room peer trigger ballot : ℕ) → Whole (r .window) → strict (r .sc) ≡ false → promise trigger ballot ∈ step r room (callPrepare peer trigger ballot) .actions
     → atPlace (step r room (callPrepare peer trigger ballot) .replica .window) (place (r .sc) trigger) .status ≡ preparing
-prepare-puts-back r room peer trigger ballot h =
+prepare-puts-back r room peer trigger ballot h base =
     prepareStep-ways (λ (o : Outcome). promise trigger ballot ∈ o .actions → atPlace (o .replica .window) (place (r .sc) trigger) .status ≡ preparing) r room peer trigger ballot
     (λ a l m. absurd (List·Memᴰ·not-nil m))
     (λ f m.
@@ -129,12 +130,13 @@ prepare-puts-back r room peer trigger ballot h =
     let long = whole-grown (r .window) (i + 1) h in
     let top = larger-left i (lastUsed (prepareWindow r trigger)) in
     ap (λ (s : Slot). s .status)
-    (sweep-at (λ k s. preparedSlot ballot (prepareBook (r .sc) (prepareWindow r trigger) i peer) s) i (prepareEnd r trigger) (prepareWindow r trigger) i (omega arith) (le-refl i)
-    (omega arith) (omega arith)))
+    (sweep-at (λ k s. preparedSlot (strict (r .sc)) ballot (prepareBook (r .sc) (prepareWindow r trigger) i peer) s) i (prepareEnd r trigger) (prepareWindow r trigger) i (omega arith) (le-refl i)
+    (omega arith) (omega arith))
+    ∙ rw base)
 
-pub accept-puts-back : (r : Replica) (room peer slot ballot : ℕ) (b : Batch) → Whole (r .window) → takenEntry slot ballot b ∈ step r room (callAccept peer slot ballot b) .actions
+pub accept-puts-back : (r : Replica) (room peer slot ballot : ℕ) (b : Batch) → Whole (r .window) → strict (r .sc) ≡ false → takenEntry slot ballot b ∈ step r room (callAccept peer slot ballot b) .actions
     → atPlace (step r room (callAccept peer slot ballot b) .replica .window) (place (r .sc) slot) .status ≡ accepting
-accept-puts-back r room peer slot ballot b h =
+accept-puts-back r room peer slot ballot b h base =
     acceptStep-ways (λ (o : Outcome). takenEntry slot ballot b ∈ o .actions → atPlace (o .replica .window) (place (r .sc) slot) .status ≡ accepting) r room peer slot ballot b
     (λ a l m. absurd (List·Memᴰ·not-nil m))
     (λ f m.
@@ -142,7 +144,7 @@ accept-puts-back r room peer slot ballot b h =
     let has = filled-has nullSlot (r .window) (i + 1) in
     let most = filled-most nullSlot (r .window) (i + 1) 64 (fit-facts r (f .fits) .numbers .window) (omega (arith, f .high)) in
     let long = whole-grown (r .window) (i + 1) h in
-    ap (λ (s : Slot). s .status) (put-at (acceptWindow r slot) i _ (omega arith) (omega arith)))
+    ap (λ (s : Slot). s .status) (put-at (acceptWindow r slot) i _ (omega arith) (omega arith)) ∙ rw base)
 
 -- ── 2.2, P1a: a proposal that the paper's acceptor accepts, in a batch's numbers and from the ballot's owner, is refused where the slot lies past the
 -- window (5), where the slot has a larger ballot (6: on no replica reached from a new one, never-high-accept), and where the key table is full (7) ──
@@ -153,11 +155,14 @@ module _ (r : Replica) (room peer slot ballot : ℕ) (b : Batch) (f : ready r ro
   accept-5 u = rw (f, p, o, q, le-ltb slot (r .sc .start) l, le-ltb ballot (r .sc .«bal_max_seen») (leb-true _ _ may), le-leb (r .sc .start + 64) slot u)
 
   module _ (u : slot < r .sc .start + 64) where
-    pub accept-6 : acceptHigh r slot ballot ≡ true → step r room (callAccept peer slot ballot b) ≡ kept 6 r
-    accept-6 h = accept-told r room peer slot ballot b f p o q l u ∙ rw (le-ltb ballot (r .sc .«bal_max_seen») (leb-true _ _ may), h)
+    pub accept-15 : acceptOther r slot b ≡ true → step r room (callAccept peer slot ballot b) ≡ kept 15 r
+    accept-15 n = accept-told r room peer slot ballot b f p o q l u ∙ rw (le-ltb ballot (r .sc .«bal_max_seen») (leb-true _ _ may), n)
 
-    pub accept-7 : acceptHigh r slot ballot ≡ false → overfull (r .keys) (clean b) ≡ true → step r room (callAccept peer slot ballot b) ≡ kept 7 r
-    accept-7 h k = accept-told r room peer slot ballot b f p o q l u ∙ rw (le-ltb ballot (r .sc .«bal_max_seen») (leb-true _ _ may), h, k)
+    pub accept-6 : acceptOther r slot b ≡ false → acceptHigh r slot ballot ≡ true → step r room (callAccept peer slot ballot b) ≡ kept 6 r
+    accept-6 n h = accept-told r room peer slot ballot b f p o q l u ∙ rw (le-ltb ballot (r .sc .«bal_max_seen») (leb-true _ _ may), n, h)
+
+    pub accept-7 : acceptOther r slot b ≡ false → acceptHigh r slot ballot ≡ false → overfull (r .keys) (clean b) ≡ true → step r room (callAccept peer slot ballot b) ≡ kept 7 r
+    accept-7 n h k = accept-told r room peer slot ballot b f p o q l u ∙ rw (le-ltb ballot (r .sc .«bal_max_seen») (leb-true _ _ may), n, h, k)
 
 -- ── runs ──
 -- what is looked at after a call: the slots present, the largest ballot seen, the believed leader, bal_prepared; the status, batch and vote
@@ -314,5 +319,5 @@ differences =
     ∷ []
 
 pub differences-hold : T (all-go differences)
-unfolding all-go differences goes newReplica fit fitScalars fitSlots fitReads fitSlot filled noting settled prepareOn prepareStep lastUsed countedOn votedOn repliedOn replyOn prepareReplyStep acceptStep acceptReplyStep firstOpen lastOpen leadOn stepUp timeoutStep preparedDone movedAccept acceptedDone passOn passStop committedDone loggedOn loggedStep offerStep markOn markStop commitNoticeStep decideAccept decideAcceptReply decideVote decideCount decidePromised decideAccepted decideOffer notAbove leastMajority withBar withFallen has insert count countIn makeBatch noteKey noteKeys newKeys placeIn overfullIn scan
+unfolding all-go differences goes newReplica fit fitScalars fitSlots fitReads fitSlot filled noting settled prepareOn prepareStep lastUsed countedOn votedOn repliedOn replyOn prepareReplyStep acceptStep acceptReplyStep firstOpen lastOpen leadOn stepUp timeoutStep preparedDone movedAccept acceptedDone passOn passStop committedDone loggedOn loggedStep offerStep markOn markStop commitNoticeStep decideAccept decideAcceptReply decideVote decideCount decidePromised decideAccepted decideOffer notAbove leastMajority withBar withFallen has insert count countIn makeBatch noteKey noteKeys newKeys placeIn overfullIn scan counts
 differences-hold = tt

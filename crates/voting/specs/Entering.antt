@@ -13,7 +13,8 @@ use Rattle.base.specs.Gather.{gather-in}
 use Rattle.actions.specs.declared.Action.the-variants.{Accept, AcceptData}
 use Rattle.actions.specs.Actions.{Act, act}
 use Rattle.slots.specs.declared.Slot.{Slot}
-use Rattle.slots.specs.Slots.{preparing, accepting, enteredSlot, withState}
+use Rattle.slots.specs.Slots.{preparing, accepting, ownVoted, enteredSlot, withState}
+use Rattle.decide.specs.Scalars.{strict}
 use Rattle.decide.specs.declared.Reply.{Reply}
 use Rattle.decide.specs.Decide.{proposal}
 use Rattle.window.specs.declared.Window.{Window}
@@ -73,10 +74,11 @@ module _ (r : Replica) (peer : ℕ) (m : Reply) (h : Whole (r .window)) (n : r .
       → Entered r (m .ballot) (enteredWindow r peer m) x
   enters-at f i lo hi s x e =
       let u = appended-most r (place (r .sc) (m .slot)) (place (r .sc) (m .trigger)) 64 n (reply-place r m f) in
-      let z : atPlace (enteredWindow r peer m) i ≡ withState (slotAt (countedWindow r peer m) i) (slotAt (countedWindow r peer m) i .ballot) accepting =
-      sweep-at (λ k v. enteredSlot v) (place (r .sc) (m .trigger)) (countedWindow r peer m .len) (countedWindow r peer m) i (let z = counted-long r peer m in omega arith) lo hi hi
-      ∙ ap enteredSlot (at-here (countedWindow r peer m) i hi)
-      ∙ ap (λ (t : Bool). pick t (withState (slotAt (countedWindow r peer m) i) (slotAt (countedWindow r peer m) i .ballot) accepting) (slotAt (countedWindow r peer m) i)) (eq-eqb _ _ s) in (
+      let y : Slot = ownVoted (strict (r .sc)) (m .ballot) (withState (slotAt (countedWindow r peer m) i) (slotAt (countedWindow r peer m) i .ballot) accepting) in
+      let z : atPlace (enteredWindow r peer m) i ≡ y =
+      sweep-at (λ k v. enteredSlot (strict (r .sc)) (m .ballot) v) (place (r .sc) (m .trigger)) (countedWindow r peer m .len) (countedWindow r peer m) i (let z = counted-long r peer m in omega arith) lo hi hi
+      ∙ ap (enteredSlot (strict (r .sc)) (m .ballot)) (at-here (countedWindow r peer m) i hi)
+      ∙ ap (λ (t : Bool). pick t y (slotAt (countedWindow r peer m) i)) (eq-eqb _ _ s) in (
         i,
         hi,
         ap (λ (v : Slot). v .status) z,
@@ -131,7 +133,7 @@ own-enters r slot bal size h f =
     record {
       only = λ u x o k. none-sent x o k;
       own = λ e o. reply-enters (logged r d) (r .sc .id) (ownAnswer r d) (whole-put (r .window) (place (r .sc) slot) _ h) (fit-facts r (f .fits) .numbers .window);
-      promised = λ e n x o k. other-sent _ x (λ z. omega arith) o k;
+      promised = λ e _ n x o k. other-sent _ x (λ z. omega arith) o k;
       acked = other-entry PrepareBal AcceptData refl;
       commits = other-entry PrepareBal AcceptData refl;
       answered = other-entry PrepareBal AcceptData refl;

@@ -1,6 +1,6 @@
 -- What a leader hears of a slot by replies, and the largest of what it hears.
 use mathlib.Core.Path.{_≡_, refl, ap}
-use mathlib.Core.Bool.{Bool, true, false, _&&_}
+use mathlib.Core.Bool.{Bool, true, false, not, _&&_}
 use mathlib.Core.List.{List, [], _∷_, _++_, List·Memᴰ·head, List·Memᴰ·tail}
 use mathlib.Core.Logic.{_⊎_, inl, inr}
 use Prim.Native.Nat.{ℕ, _≤_, _<_}
@@ -21,9 +21,9 @@ use Rattle.replica.specs.declared.Done.{Done}
 use Rattle.replica.specs.declared.Entry.{Entry}
 use Rattle.replica.specs.declared.Entry.the-variants.{PrepareBal, AcceptData, CommitSlot as CommitEntry}
 use Rattle.replica.specs.Record.{place}
-use Rattle.replica.specs.Messages.{cleanReply}
+use Rattle.replica.specs.Messages.{isElsewhere, cleanReply}
 use Rattle.replica.specs.Step.{Call, callPrepare, callPrepareReply, callAccept, callAcceptReply, callCommitNotice, callTimeout, callLogged, callOffer, callExecuted, callOpenRead, callReadReply}
-use Rattle.laws.specs.WaysReply.{replySlot}
+use Rattle.laws.specs.WaysReply.{grownWindow}
 use Rattle.laws.specs.WaysDurability.{logged}
 use Rattle.voting.specs.Paper.{Highest, Choice}
 use Rattle.voting.specs.History.{Lent, told}
@@ -41,12 +41,12 @@ abbrev pub best : Vote → List Vote → Vote
 best held [] = held
 best held (v ∷ l) = best (pick (ltb (held .ballot) (v .ballot)) v held) l
 
--- a reply arrives for slot s while it waits for it: self leads, the ballot is bal_prep_sent, its trigger has the leader's bookkeeping, and
--- the slot (appended where the log does not reach it) is Preparing at no larger ballot
+-- a reply arrives for slot s while it waits for it: self leads, the ballot is bal_prep_sent, its trigger is none that a strict leader ignores and has
+-- the leader's bookkeeping, and the slot (appended where the log does not reach it) is Preparing at no larger ballot
 abbrev pub arrives : Replica → Reply → ℕ → Bool
 arrives r m s =
     eqb (m .slot) s && (leads (r .sc) && (eqb (m .ballot) (r .sc .«bal_prep_sent»)
-    && (slotAt (r .window) (place (r .sc) (m .trigger)) .leader .present && awaitsPrepare (replySlot r m) (m .ballot))))
+    && (not (isElsewhere (r .sc) m) && (slotAt (r .window) (place (r .sc) (m .trigger)) .leader .present && awaitsPrepare (slotAt (grownWindow r m) (place (r .sc) (m .slot))) (m .ballot)))))
 
 -- the vote that it brings, where the call is answered 0 and it tells of one
 abbrev pub brings : Replica → Reply → ℕ → ℕ → List Vote

@@ -1,36 +1,37 @@
 -- While self leads at one ballot, what a slot holds changes only by replies that arrive for it: one call of each kind.
-use mathlib.Core.Path.{_≡_, refl, sym, ap, _∙_}
+use mathlib.Core.Path.{_≡_, refl, sym, ap, subst, _∙_}
 use mathlib.Core.Bool.{Bool, true, false, not, _&&_}
 use mathlib.Core.List.{List, [], _∷_}
 use mathlib.Core.Logic.{_⊎_, inl, inr}
 use Prim.Native.Nat.{ℕ, _+_, _≤_, _<_}
 use native.Mathlib.Omega.{arith}
 use lib.Dec.{ltb, eqb}
-use borrow.Author.Tests.{ltb-false, leb-true, eqb-true, eq-eqb, le-leb, le-ltb}
+use borrow.Author.Tests.{not-true, ltb-false, leb-true, eqb-true, eq-eqb, le-leb, le-ltb}
 use Rattle.base.specs.Pick.{pick, pick-cases, decide, same?, clash, and-both, and-make}
 use Rattle.actions.specs.Actions.{Act}
 use Rattle.slots.specs.declared.Vote.{Vote}
 use Rattle.slots.specs.declared.Slot.{Slot}
-use Rattle.slots.specs.Slots.{preparedSlot, enteredSlot, markedSlot, passedSlot, loggedSlot, adoptedSlot}
+use Rattle.slots.specs.Slots.{preparedSlot, notedSlot, enteredSlot, markedSlot, passedSlot, loggedSlot, adoptedSlot}
 use Rattle.decide.specs.declared.Scalars.{Scalars}
 use Rattle.decide.specs.declared.Reply.{Reply}
-use Rattle.decide.specs.Scalars.{leads}
-use Rattle.decide.specs.Decide.{decideOffer, awaitsPrepare}
+use Rattle.decide.specs.Scalars.{leads, strict}
+use Rattle.decide.specs.Decide.{decideOffer, awaitsPrepare, isStale}
 use Rattle.window.specs.declared.Window.{Window}
 use Rattle.window.specs.Window.{slotAt, putSlot}
+use Rattle.window.specs.Places.{put-long, put-here}
 use Rattle.window.specs.ByPlace.{atPlace, put-keeps, put-at, put-elsewhere, sweep-keeps, grown-at, at-here, at-past}
 use Rattle.replica.specs.declared.Replica.{Replica}
 use Rattle.replica.specs.declared.Done.{Done}
 use Rattle.replica.specs.declared.Entry.{Entry}
 use Rattle.replica.specs.declared.Entry.the-variants.{PrepareBal, AcceptData, CommitSlot as CommitEntry}
 use Rattle.replica.specs.Record.{place}
-use Rattle.replica.specs.Messages.{cleanReply, prepareBook}
+use Rattle.replica.specs.Messages.{isElsewhere, cleanReply, prepareBook}
 use Rattle.replica.specs.Durability.{entryNumber, passStop, loggedOn}
 use Rattle.replica.specs.Added.{movedExec}
 use Rattle.replica.specs.Step.{Call, callPrepare, callPrepareReply, callAccept, callAcceptReply, callCommitNotice, callTimeout, callLogged, callOffer, callExecuted, callOpenRead, callReadReply, step}
 use Rattle.laws.specs.OfFit.{fit-facts}
 use Rattle.laws.specs.WaysMessages.{prepareWindow, prepareEnd, prepareStep-ways, acceptStep-ways, acceptReplyStep-ways}
-use Rattle.laws.specs.WaysReply.{replyWindow, replySlot, heardSlot, heardWindow, countedWindow, Answers, Heard, Unheard, reply-place}
+use Rattle.laws.specs.WaysReply.{grownWindow, replyWindow, replySlot, heardSlot, heardWindow, countedWindow, Answers, Heard, Unheard, reply-place}
 use Rattle.laws.specs.WaysLeadership.{timeoutStep-ways, markWindow, markFrom, markEnd, commitNoticeStep-ways, leads-up}
 use Rattle.laws.specs.WaysDurability.{completion, logged, loggedAt, OwnReply, passFrom, other-entry}
 use Rattle.laws.specs.WaysAdded.{offerWindow, offerStep-ways, executedStep-ways}
@@ -50,16 +51,18 @@ hears r m s a sc w acts = heldBy (atPlace w (place (r .sc) s)) ≡ best (heldAt 
 pub record Arrived (r : Replica) (m : Reply) (s : ℕ) : Type 0 where
   pub slot : m .slot ≡ s
   pub sent : m .ballot ≡ r .sc .«bal_prep_sent»
+  pub own : isElsewhere (r .sc) m ≡ false
   pub booked : slotAt (r .window) (place (r .sc) (m .trigger)) .leader .present ≡ true
-  pub waits : awaitsPrepare (replySlot r m) (m .ballot) ≡ true
+  pub waits : awaitsPrepare (slotAt (grownWindow r m) (place (r .sc) (m .slot))) (m .ballot) ≡ true
 
 arrived : (r : Replica) (m : Reply) (s : ℕ) → arrives r m s ≡ true → Arrived r m s
 arrived r m s e =
     let a = and-both (eqb (m .slot) s) _ e in
     let b = and-both (leads (r .sc)) _ (a .1) in
     let c = and-both (eqb (m .ballot) (r .sc .«bal_prep_sent»)) _ (b .1) in
-    let d = and-both (slotAt (r .window) (place (r .sc) (m .trigger)) .leader .present) _ (c .1) in
-    record { slot = eqb-true _ _ (a .0); sent = eqb-true _ _ (c .0); booked = d .0; waits = d .1 }
+    let o = and-both (not (isElsewhere (r .sc) m)) _ (c .1) in
+    let d = and-both (slotAt (r .window) (place (r .sc) (m .trigger)) .leader .present) _ (o .1) in
+    record { slot = eqb-true _ _ (a .0); sent = eqb-true _ _ (c .0); own = not-true (isElsewhere (r .sc) m) (o .0); booked = d .0; waits = d .1 }
 
 brings-none : (r : Replica) (m : Reply) (s a : ℕ) → (a ≡ 0 → Arrived r m s → ⊥) → brings r m s a ≡ []
 brings-none r m s a n =
@@ -75,52 +78,71 @@ weigh-best true held v = go (decide (ltb 0 (v .ballot)))
     go (inl t) = rw t
     go (inr t) = rw (t, le-ltb (held .ballot) (v .ballot) (let u = ltb-false 0 (v .ballot) t in omega arith))
 
-held-weighed : (m : Reply) (x : Slot) → heldBy (heardSlot x m) ≡ pick (m .voted && ltb (heldBy x .ballot) (m .vote .ballot)) (m .vote) (heldBy x)
-held-weighed m x = go (m .voted && ltb (heldBy x .ballot) (m .vote .ballot))
+-- the same, where the reply is awaited or not
+heard-best : (t voted : Bool) (held v : Vote) → pick (t && (voted && ltb (held .ballot) (v .ballot))) v held ≡ best held (pick (t && (true && (voted && ltb 0 (v .ballot)))) (v ∷ []) [])
+heard-best true voted held v = weigh-best voted held v
+heard-best false voted held v = refl
+
+held-weighed : (m : Reply) (x : Slot)
+    → heldBy (heardSlot x m) ≡ pick (awaitsPrepare x (m .ballot) && (m .voted && ltb (heldBy x .ballot) (m .vote .ballot))) (m .vote) (heldBy x)
+held-weighed m x = go (awaitsPrepare x (m .ballot) && (m .voted && ltb (heldBy x .ballot) (m .vote .ballot)))
   where
     go : (t : Bool) → heldBy (pick t (adoptedSlot (m .vote) x) x) ≡ pick t (m .vote) (heldBy x)
     go true = refl
     go false = refl
 
 module _ (r : Replica) (peer : ℕ) (m : Reply) (s : ℕ) (h : Whole (r .window)) (n : r .window .len ≤ 64) (l : r .sc .start ≤ s) where
-  wide-held : Answers r m → (i : ℕ) → heldBy (atPlace (replyWindow r m) i) ≡ heldBy (atPlace (r .window) i)
+  wide-held : Answers r m → (i : ℕ) → heldBy (atPlace (replyWindow r peer m) i) ≡ heldBy (atPlace (r .window) i)
   wide-held f i =
-      appended-cases (λ (x : Slot). heldBy x ≡ heldBy (atPlace (r .window) i)) r (place (r .sc) (m .slot)) (place (r .sc) (m .trigger)) i (let u = reply-place r m f in omega arith)
+      put-keeps heldBy (grownWindow r m) (place (r .sc) (m .slot)) i _ refl
+      ∙ appended-cases (λ (x : Slot). heldBy x ≡ heldBy (atPlace (r .window) i)) r (place (r .sc) (m .slot)) (place (r .sc) (m .trigger)) i (let u = reply-place r m f in omega arith)
       (λ l. ap heldBy (sym (at-past (r .window) i l))) refl
 
-  arrives-here : Answers r m → Heard r peer m → m .slot ≡ s → arrives r m s ≡ true
-  arrives-here f w e = and-make (eq-eqb _ _ e) (and-make (f .leading) (and-make (eq-eqb _ _ (f .sent)) (and-make (f .booked) (w .waits))))
+  -- the slot with the note: what is awaited does not look at it
+  noted-here : Answers r m → replySlot r peer m ≡ notedSlot (strict (r .sc)) peer (slotAt (grownWindow r m) (place (r .sc) (m .slot)))
+  noted-here f =
+      put-here (grownWindow r m) (place (r .sc) (m .slot)) _
+      (let z = appended-long r (place (r .sc) (m .slot)) (place (r .sc) (m .trigger)) in let u = reply-place r m f in omega arith)
 
-  weighed-held : Answers r m → Heard r peer m → heldBy (atPlace (heardWindow r m) (place (r .sc) s)) ≡ best (heldAt r s) (brings r m s 0)
-  weighed-held f w = go (same? (m .slot) s)
+  abbrev waits : Bool
+  waits = awaitsPrepare (slotAt (grownWindow r m) (place (r .sc) (m .slot))) (m .ballot)
+
+  arrives-here : Answers r m → m .slot ≡ s → arrives r m s ≡ waits
+  arrives-here f e = rw (eq-eqb _ _ e, f .leading, eq-eqb _ _ (f .sent), f .own, f .booked)
+
+  weighed-held : Answers r m → heldBy (atPlace (heardWindow r peer m) (place (r .sc) s)) ≡ best (heldAt r s) (brings r m s 0)
+  weighed-held f = go (same? (m .slot) s)
     where
-      go : (m .slot ≡ s) ⊎ (m .slot ≡ s → ⊥) → heldBy (atPlace (heardWindow r m) (place (r .sc) s)) ≡ best (heldAt r s) (brings r m s 0)
+      go : (m .slot ≡ s) ⊎ (m .slot ≡ s → ⊥) → heldBy (atPlace (heardWindow r peer m) (place (r .sc) s)) ≡ best (heldAt r s) (brings r m s 0)
       go (inr d) =
-          ap heldBy (put-elsewhere (replyWindow r m) (place (r .sc) (m .slot)) _ (place (r .sc) s) (λ z. d (let x = f .low in let y = f .from in omega arith))) ∙ wide-held f (place (r .sc) s)
+          ap heldBy (put-elsewhere (replyWindow r peer m) (place (r .sc) (m .slot)) _ (place (r .sc) s) (λ z. d (let x = f .low in let y = f .from in omega arith))) ∙ wide-held f (place (r .sc) s)
           ∙ sym (ap (best (heldAt r s)) (brings-none r m s 0 (λ z a. d (a .slot))))
       go (inl e) =
           let i : ℕ = place (r .sc) (m .slot) in
           let k = appended-has r i (place (r .sc) (m .trigger)) in
           let u = appended-most r i (place (r .sc) (m .trigger)) 64 n (reply-place r m f) in
-          let there : heldBy (replySlot r m) ≡ heldAt r s = ap heldBy (sym (at-here (replyWindow r m) i k)) ∙ wide-held f i ∙ ap (λ (x : ℕ). heldAt r x) e in
-          ap (λ (x : ℕ). heldBy (atPlace (heardWindow r m) (place (r .sc) x))) (sym e)
-          ∙ ap heldBy (put-at (replyWindow r m) i (heardSlot (replySlot r m) m) k (let z = appended-long r i (place (r .sc) (m .trigger)) in omega arith))
-          ∙ held-weighed m (replySlot r m)
-          ∙ ap (λ (x : Vote). pick (m .voted && ltb (x .ballot) (m .vote .ballot)) (m .vote) x) there
-          ∙ weigh-best (m .voted) (heldAt r s) (m .vote)
-          ∙ ap (λ (t : Bool). best (heldAt r s) (pick (t && (true && (m .voted && ltb 0 (m .vote .ballot)))) (m .vote ∷ []) [])) (sym (arrives-here f w e))
+          let there : heldBy (replySlot r peer m) ≡ heldAt r s = ap heldBy (sym (at-here (replyWindow r peer m) i k)) ∙ wide-held f i ∙ ap (λ (x : ℕ). heldAt r x) e in
+          ap (λ (x : ℕ). heldBy (atPlace (heardWindow r peer m) (place (r .sc) x))) (sym e)
+          ∙ ap heldBy (put-at (replyWindow r peer m) i (heardSlot (replySlot r peer m) m) k (let z = put-long (grownWindow r m) i (notedSlot (strict (r .sc)) peer (slotAt (grownWindow r m) i)) in let y = appended-long r i (place (r .sc) (m .trigger)) in omega arith))
+          ∙ held-weighed m (replySlot r peer m)
+          ∙ ap (λ (x : Vote). pick (awaitsPrepare (replySlot r peer m) (m .ballot) && (m .voted && ltb (x .ballot) (m .vote .ballot))) (m .vote) x) there
+          ∙ ap (λ (x : Slot). pick (awaitsPrepare x (m .ballot) && (m .voted && ltb (heldAt r s .ballot) (m .vote .ballot))) (m .vote) (heldAt r s)) (noted-here f)
+          ∙ heard-best waits (m .voted) (heldAt r s) (m .vote)
+          ∙ ap (λ (t : Bool). best (heldAt r s) (pick (t && (true && (m .voted && ltb 0 (m .vote .ballot)))) (m .vote ∷ []) [])) (sym (arrives-here f e))
 
-  counted-held : Answers r m → Heard r peer m → heldBy (atPlace (countedWindow r peer m) (place (r .sc) s)) ≡ best (heldAt r s) (brings r m s 0)
-  counted-held f w = put-keeps heldBy (heardWindow r m) (place (r .sc) (m .trigger)) (place (r .sc) s) _ refl ∙ weighed-held f w
+  counted-held : Answers r m → heldBy (atPlace (countedWindow r peer m) (place (r .sc) s)) ≡ best (heldAt r s) (brings r m s 0)
+  counted-held f = put-keeps heldBy (heardWindow r peer m) (place (r .sc) (m .trigger)) (place (r .sc) s) _ refl ∙ weighed-held f
 
   reply-hears : ReplyWays (hears r m s) r peer m
   reply-hears =
       record {
-        passed = λ f t. wide-held f (place (r .sc) s) ∙ sym (ap (best (heldAt r s)) (brings-none r m s 0 (λ z a. clash (a .waits) t)));
-        heard = λ f w. weighed-held f w;
-        counted = λ f w. counted-held f w;
+        passed = λ f t.
+            wide-held f (place (r .sc) s)
+            ∙ sym (ap (best (heldAt r s)) (brings-none r m s 0 (λ z a. clash (subst (λ (x : Slot). awaitsPrepare x (m .ballot) ≡ true) (sym (noted-here f)) (a .waits)) t)));
+        heard = λ f w. weighed-held f;
+        counted = λ f w. counted-held f;
         entered = λ f w q.
-            sweep-keeps heldBy (λ k x. enteredSlot x) (λ k x. entered-keeps heldBy (λ s n. refl) x) (place (r .sc) (m .trigger)) (countedWindow r peer m .len) (countedWindow r peer m) (place (r .sc) s) ∙ counted-held f w;
+            sweep-keeps heldBy (λ k x. enteredSlot (strict (r .sc)) (m .ballot) x) (λ k x. entered-keeps heldBy (λ s n. refl) (strict (r .sc)) (m .ballot) (λ s. refl) x) (place (r .sc) (m .trigger)) (countedWindow r peer m .len) (countedWindow r peer m) (place (r .sc) s) ∙ counted-held f;
       }
 
 -- ── calls that bring no reply, while self leads on at one ballot ──
@@ -143,10 +165,10 @@ log-holds r d s n =
     record {
       only = λ u x y. e;
       own = λ z o. absurd (n z);
-      promised = λ z t x y. e;
-      acked = λ z x y. put _ refl;
-      commits = λ z k q x y. put _ refl;
-      answered = λ z t x y. e;
+      promised = λ z _ t x y. e;
+      acked = λ z _ x y. put _ refl;
+      commits = λ z _ k q x y. put _ refl;
+      answered = λ z _ t x y. e;
       passes = λ z x y.
           sweep-keeps heldBy (λ k v. passedSlot v) (λ k v. passed-keeps heldBy (λ s n. refl) v) (passFrom (logged r d)) (passStop (logged r d)) (logged r d .window) (place (r .sc) s) ∙ e;
     }
@@ -176,7 +198,7 @@ step-holds r room c s g l st = go c
         logged-way (holds r s) r d room (λ a z u x y. refl) (λ f. log-holds r d s (λ e. clash n (ap (λ (x : Entry). not (eqb (entryNumber x) 1)) e)))
     go (callPrepare peer trigger ballot) h n =
         prepareStep-ways (of (holds r s)) r room peer trigger ballot (λ a z x y. refl)
-        (λ f x y. sweep-keeps heldBy (λ i v. preparedSlot ballot (prepareBook (r .sc) (prepareWindow r trigger) (place (r .sc) trigger) peer) v) (λ k v. refl) (place (r .sc) trigger) (prepareEnd r trigger) (prepareWindow r trigger) (place (r .sc) s)
+        (λ f x y. sweep-keeps heldBy (λ i v. preparedSlot (strict (r .sc)) ballot (prepareBook (r .sc) (prepareWindow r trigger) (place (r .sc) trigger) peer) v) (λ k v. refl) (place (r .sc) trigger) (prepareEnd r trigger) (prepareWindow r trigger) (place (r .sc) s)
         ∙ ap heldBy (grown-at (r .window) (place (r .sc) trigger + 1) (place (r .sc) s) (omega (arith, f .low, f .high))))
     go (callAccept peer slot ballot b) h n =
         acceptStep-ways (of (holds r s)) r room peer slot ballot b (λ a z x y. refl) (λ f x y. absurd (follows-none r peer ballot g (f .peer-is) (f .owned) (f .seen) x))
@@ -211,7 +233,8 @@ step-hears r room peer m s g l =
     deaf : Arrived r (cleanReply m) s → (m .slot < r .sc .start) ⊎ Unheard r (cleanReply m) → ⊥
     deaf x (inl u) = let z = x .slot in omega arith
     deaf x (inr (inl u)) = u (x .sent)
-    deaf x (inr (inr u)) = clash (x .booked) u
+    deaf x (inr (inr (inl u))) = clash (x .booked) u
+    deaf x (inr (inr (inr u))) = clash u (x .own)
 
 -- ── the leader's own, at the end of its PrepareBal entry ──
 abbrev ownHears : Replica → ℕ → ℕ → ℕ → ℕ → Claim
@@ -246,9 +269,9 @@ module _ (r : Replica) (room slot bal size s : ℕ) (g : Good (r .sc) (r .window
         only = λ u. after-held r mine (place (r .sc) s) ∙ sym (ap (best (heldAt r s)) (none-own 0 (λ t z x. deaf x (u refl (own t)))));
         own = λ e o.
             map-reply (hears (logged r mine) (ownAnswer r mine) s) (ownHears r slot bal size s) (logged r mine) (r .sc .id) (ownAnswer r mine)
-            (own-turn (and-make (o .booked) (le-leb _ _ (o .within))))
+            (own-turn (and-make (ap not (o .heeds)) (and-make (o .booked) (le-leb _ _ (o .within)))))
             (reply-hears (logged r mine) (r .sc .id) (ownAnswer r mine) s after-whole (fit-facts r (f .fits) .numbers .window) l);
-        promised = λ e n. absurd (clash q n);
+        promised = λ e _ n. absurd (clash q n);
         acked = other-entry PrepareBal AcceptData refl;
         commits = other-entry PrepareBal AcceptData refl;
         answered = other-entry PrepareBal AcceptData refl;
@@ -260,10 +283,14 @@ module _ (r : Replica) (room slot bal size s : ℕ) (g : Good (r .sc) (r .window
 
       deaf : Arrived (logged r mine) (ownAnswer r mine) s → Unheard (logged r mine) (ownAnswer r mine) → ⊥
       deaf x (inl u) = u (x .sent)
-      deaf x (inr u) = clash (x .booked) u
+      deaf x (inr (inl u)) = clash (x .booked) u
+      deaf x (inr (inr u)) = clash u (x .own)
 
-      own : ownBook r mine ≡ true → OwnReply (logged r mine) (loggedAt r mine) slot
-      own t = let b = and-both (loggedAt r mine .leader .present) _ t in record { leading = q; booked = b .0; within = leb-true _ _ (b .1) }
+      own : ownBook r mine ≡ true → OwnReply (logged r mine) (loggedAt r mine) slot bal
+      own t =
+          let h = and-both (not (isStale (logged r mine .sc) (loggedAt r mine) bal false)) _ t in
+          let b = and-both (loggedAt r mine .leader .present) _ (h .1) in
+          record { heeds = not-true (isStale (logged r mine .sc) (loggedAt r mine) bal false) (h .0); leading = q; booked = b .0; within = leb-true _ _ (b .1) }
 
 -- ── one call, of every kind ──
 -- a reply that arrives, the leader's own, or a call that brings none

@@ -1,19 +1,20 @@
 -- What a change of a slot keeps, where p does not look at what it changes.
-use mathlib.Core.Path.{_≡_, refl}
-use mathlib.Core.Bool.{_||_}
+use mathlib.Core.Path.{_≡_, refl, _∙_}
+use mathlib.Core.Bool.{Bool, _||_}
 use Prim.Native.Nat.{ℕ}
 use lib.Dec.{ltb, leb, eqb}
 use Rattle.base.specs.Pick.{pick-both}
 use Rattle.slots.specs.declared.Slot.{Slot}
-use Rattle.slots.specs.Slots.{withState, withOffset, committed, preparing, enteredSlot, markedSlot, passedSlot, executedSlot, loggedSlot, adoptedSlot}
+use Rattle.slots.specs.Slots.{withState, withOffset, committed, preparing, ownVoted, enteredSlot, markedSlot, passedSlot, executedSlot, loggedSlot, adoptedSlot}
 use Rattle.decide.specs.declared.Reply.{Reply}
 use Rattle.laws.specs.WaysReply.{adoptsVote, heardSlot}
 
 module _ {A : Type 0} (p : Slot → A) where
   -- another status
   module _ (e : (s : Slot) (status : ℕ) → p (withState s (s .ballot) status) ≡ p s) where
-    pub entered-keeps : (s : Slot) → p (enteredSlot s) ≡ p s
-    entered-keeps s = pick-both (λ (x : Slot). p x ≡ p s) (eqb (s .status) preparing) (e s 2) refl
+    -- and, by a strict leader, another vote
+    pub entered-keeps : (strict : Bool) (ballot : ℕ) → ((s : Slot) → p (ownVoted strict ballot s) ≡ p s) → (s : Slot) → p (enteredSlot strict ballot s) ≡ p s
+    entered-keeps strict ballot o s = pick-both (λ (x : Slot). p x ≡ p s) (eqb (s .status) preparing) (o (withState s (s .ballot) 2) ∙ e s 2) refl
 
     pub marked-keeps : (s : Slot) → p (markedSlot s) ≡ p s
     marked-keeps s = pick-both (λ (x : Slot). p x ≡ p s) (leb committed (s .status)) refl (e s 3)

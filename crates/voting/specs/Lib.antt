@@ -8,8 +8,11 @@ pub mod Replying
 pub mod Logging
 pub mod Promises
 pub mod Reached
+pub mod Below
 pub mod Wholes
+pub mod Unvoted
 pub mod Votes
+pub mod StrictVotes
 pub mod Heard
 pub mod Held
 pub mod Choice
@@ -18,6 +21,9 @@ pub mod Backing
 pub mod Quorums
 pub mod Majorities
 pub mod Reigning
+pub mod Covered
+pub mod CoveredReply
+pub mod Resting
 pub mod Telling
 pub mod Speaking
 pub mod Ballots

@@ -62,22 +62,22 @@ module _ (r : Replica) (peer : ℕ) (m : Reply) (h : Whole (r .window)) (n : r .
   j = place (r .sc) (m .trigger)
 
   -- the trigger slot after the call: the sender is put into the set that it had
-  counted-set : Answers r m → standing (atPlace (enteredWindow r peer m) j) .prepare ≡ insert (stands r j .prepare) peer
+  pub counted-set : Answers r m → standing (atPlace (enteredWindow r peer m) j) .prepare ≡ insert (stands r j .prepare) peer
   counted-set f =
       let low : j < r .window .len = (let x = f .low in let y = f .logged in omega arith) in
       let wide = appended-low r (place (r .sc) (m .slot)) j in
       let most = appended-most r (place (r .sc) (m .slot)) j 64 n (reply-place r m f) in
       let long = heard-long r peer m in
       ap (λ (x : Standing). x .prepare) (entered-same r peer m j)
-      ∙ ap (λ (x : Slot). x .leader .«prepare_acks») (put-at (heardWindow r m) j _ (omega arith) (omega arith))
-      ∙ ap (λ (x : Standing). insert (x .prepare) peer) (trigger-same r m low h f)
+      ∙ ap (λ (x : Slot). x .leader .«prepare_acks») (put-at (heardWindow r peer m) j _ (omega arith) (omega arith))
+      ∙ ap (λ (x : Standing). insert (x .prepare) peer) (trigger-same r peer m low h f)
 
-  full-majority : Answers r m → isFull r peer m ≡ true → Majority (r .sc .group) (standing (atPlace (enteredWindow r peer m) j) .prepare)
+  pub full-majority : Answers r m → isFull r peer m ≡ true → Majority (r .sc .group) (standing (atPlace (enteredWindow r peer m) j) .prepare)
   full-majority f q =
       let low : j < r .window .len = (let x = f .low in let y = f .logged in omega arith) in
       let some : quorumOf (r .sc .group) ≤ countIn (insert (stands r j .prepare) peer) =
       subst (λ (g : ℕ). quorumOf g ≤ countIn (insert (stands r j .prepare) peer)) (fallen-fixed (r .sc) (r .bars) peer (m .bar) .group)
-      (subst (λ (x : Standing). quorumOf (tabledSc r peer m .group) ≤ countIn (insert (x .prepare) peer)) (trigger-same r m low h f) (leb-true _ _ q)) in
+      (subst (λ (x : Standing). quorumOf (tabledSc r peer m .group) ≤ countIn (insert (x .prepare) peer)) (trigger-same r peer m low h f) (leb-true _ _ q)) in
       subst (Majority (r .sc .group)) (sym (counted-set f))
       (quorum-is-majority (r .sc .group) (insert (stands r j .prepare) peer) (within-insert (stands r j .prepare) (r .sc .group) peer (fits j low) p) .1 some)
 
@@ -121,7 +121,7 @@ module _ (r : Replica) (room slot bal offset : ℕ) (h : Whole (r .window)) wher
             (λ j l.
             subst (λ (s : Standing). fitsGroup (s .prepare) (r .sc .group) ≡ true) (sym (after-same r mine j))
             (subst (λ (s : Slot). fitsGroup (s .leader .«prepare_acks») (r .sc .group) ≡ true) (sym (at-here (r .window) j l)) (g .slots j l .prepare)));
-        promised = λ e n x o k. other-sent _ x (λ z. omega arith) o k;
+        promised = λ e _ n x o k. other-sent _ x (λ z. omega arith) o k;
         acked = other-entry PrepareBal AcceptData refl;
         commits = other-entry PrepareBal AcceptData refl;
         answered = other-entry PrepareBal AcceptData refl;

@@ -17,6 +17,7 @@ use Rattle.slots.specs.Slots.{fitSlot}
 use Rattle.decide.specs.Bars.{notAbove, leastMajority, withBar, withFallen}
 use Rattle.decide.specs.Decide.{decideAccept, decideAcceptReply, decideVote, decideCount, decidePromised, decideAccepted, proposal}
 use Rattle.decide.specs.Scalars.{fitScalars}
+use Rattle.window.specs.Counting.{counts}
 use Rattle.window.specs.Window.{fitSlots, lastUsed, firstOpen, lastOpen, filled}
 use Rattle.window.specs.ByPlace.{atPlace}
 use Rattle.replica.specs.declared.Replica.{Replica}
@@ -84,7 +85,7 @@ answers =
     ∷ lend (callPrepareReply 3 (voting 0 0 257 4 7)) ∷ []
 
 pub reign-met : Reign stepped answers 0
-unfolding answers newReplica fit fitScalars fitSlots fitReads fitSlot filled noting settled countedOn votedOn repliedOn replyOn prepareReplyStep firstOpen lastOpen leadOn stepUp timeoutStep preparedDone loggedOn loggedStep decideVote decideCount notAbove leastMajority withBar withFallen has insert count countIn makeBatch noteKey noteKeys newKeys placeIn overfullIn scan
+unfolding answers newReplica fit fitScalars fitSlots fitReads fitSlot filled noting settled countedOn votedOn repliedOn replyOn prepareReplyStep firstOpen lastOpen leadOn stepUp timeoutStep preparedDone loggedOn loggedStep decideVote decideCount notAbove leastMajority withBar withFallen has insert count countIn makeBatch noteKey noteKeys newKeys placeIn overfullIn scan counts
 reign-met = (
   record { leading = refl; leads-on = refl; same = refl; here = inr refl },
   (
@@ -94,7 +95,7 @@ reign-met = (
 )
 
 pub heard-met : numbersIn (heardIn stepped answers 0) ≡ 3 ∷ 9 ∷ 5 ∷ 8 ∷ 4 ∷ 7 ∷ []
-unfolding answers newReplica fit fitScalars fitSlots fitReads fitSlot filled noting settled countedOn votedOn repliedOn replyOn prepareReplyStep firstOpen lastOpen leadOn stepUp timeoutStep preparedDone loggedOn loggedStep decideVote decideCount notAbove leastMajority withBar withFallen has insert count countIn makeBatch noteKey noteKeys newKeys placeIn overfullIn scan
+unfolding answers newReplica fit fitScalars fitSlots fitReads fitSlot filled noting settled countedOn votedOn repliedOn replyOn prepareReplyStep firstOpen lastOpen leadOn stepUp timeoutStep preparedDone loggedOn loggedStep decideVote decideCount notAbove leastMajority withBar withFallen has insert count countIn makeBatch noteKey noteKeys newKeys placeIn overfullIn scan counts
 heard-met = refl
 
 -- the largest of these is that at 5
@@ -102,7 +103,7 @@ pub best-met : numbersIn (best (record { ballot = 0; batch = batchOf 0 }) (voteA
 best-met = refl
 
 pub choice-met : numbersIn (heldAt stepped 0 ∷ heldAt (play stepped answers) 0 ∷ []) ≡ 0 ∷ 0 ∷ 5 ∷ 8 ∷ []
-unfolding atPlace answers newReplica fit fitScalars fitSlots fitReads fitSlot filled noting settled countedOn votedOn repliedOn replyOn prepareReplyStep firstOpen lastOpen leadOn stepUp timeoutStep preparedDone loggedOn loggedStep decideVote decideCount notAbove leastMajority withBar withFallen has insert count countIn makeBatch noteKey noteKeys newKeys placeIn overfullIn scan
+unfolding atPlace answers newReplica fit fitScalars fitSlots fitReads fitSlot filled noting settled countedOn votedOn repliedOn replyOn prepareReplyStep firstOpen lastOpen leadOn stepUp timeoutStep preparedDone loggedOn loggedStep decideVote decideCount notAbove leastMajority withBar withFallen has insert count countIn makeBatch noteKey noteKeys newKeys placeIn overfullIn scan counts
 choice-met = refl
 
 -- ── the leader's own entry makes the quorum: 1 and 3 have answered, and its own completion sends the Accept ──
@@ -113,14 +114,14 @@ unfoldable pub ownLast : List Lent
 ownLast = lend (callPrepareReply 1 (voting 0 0 257 3 9)) ∷ lend (callPrepareReply 3 (voting 0 0 257 4 7)) ∷ []
 
 pub own-reign-met : Reign stepped (ownLast ++ (ownEntry ∷ [])) 0
-unfolding ownLast newReplica fit fitScalars fitSlots fitReads fitSlot filled noting settled countedOn votedOn repliedOn replyOn prepareReplyStep firstOpen lastOpen leadOn stepUp timeoutStep preparedDone loggedOn loggedStep decideVote decideCount notAbove leastMajority withBar withFallen has insert count countIn makeBatch noteKey noteKeys newKeys placeIn overfullIn scan
+unfolding ownLast newReplica fit fitScalars fitSlots fitReads fitSlot filled noting settled countedOn votedOn repliedOn replyOn prepareReplyStep firstOpen lastOpen leadOn stepUp timeoutStep preparedDone loggedOn loggedStep decideVote decideCount notAbove leastMajority withBar withFallen has insert count countIn makeBatch noteKey noteKeys newKeys placeIn overfullIn scan counts
 own-reign-met = (
   record { leading = refl; leads-on = refl; same = refl; here = inr refl },
   (record { leading = refl; leads-on = refl; same = refl; here = inr refl }, (record { leading = refl; leads-on = refl; same = refl; here = inr refl }, tt)),
 )
 
 pub own-sends : map kindOf (told (play stepped ownLast) ownEntry .actions) ≡ 2 ∷ 6 ∷ []
-unfolding ownLast newReplica fit fitScalars fitSlots fitReads fitSlot filled noting settled countedOn votedOn repliedOn replyOn prepareReplyStep firstOpen lastOpen leadOn stepUp timeoutStep preparedDone loggedOn loggedStep decideVote decideCount notAbove leastMajority withBar withFallen has insert count countIn makeBatch noteKey noteKeys newKeys placeIn overfullIn scan
+unfolding ownLast newReplica fit fitScalars fitSlots fitReads fitSlot filled noting settled countedOn votedOn repliedOn replyOn prepareReplyStep firstOpen lastOpen leadOn stepUp timeoutStep preparedDone loggedOn loggedStep decideVote decideCount notAbove leastMajority withBar withFallen has insert count countIn makeBatch noteKey noteKeys newKeys placeIn overfullIn scan counts
 own-sends = refl
 
 -- ── a majority answers: 1 and self have answered at 257, and 3's reply makes three of five: the slot is at 257, and its set is {0, 1, 3} ──
@@ -134,11 +135,11 @@ abbrev pub third : Lent
 third = lend (callPrepareReply 3 (reply 0 0 257))
 
 pub asked-sends : map kindOf (told (play first asked) third .actions) ≡ 2 ∷ 6 ∷ []
-unfolding asked newReplica fit fitScalars fitSlots fitReads fitSlot filled noting settled countedOn votedOn repliedOn replyOn prepareReplyStep prepareOn prepareStep lastUsed acceptReplyStep firstOpen lastOpen leadOn stepUp timeoutStep preparedDone movedAccept acceptedDone loggedOn loggedStep decideVote decideCount decidePromised decideAccepted decideAcceptReply notAbove leastMajority withBar withFallen has insert count countIn makeBatch noteKey noteKeys newKeys placeIn overfullIn scan
+unfolding asked newReplica fit fitScalars fitSlots fitReads fitSlot filled noting settled countedOn votedOn repliedOn replyOn prepareReplyStep prepareOn prepareStep lastUsed acceptReplyStep firstOpen lastOpen leadOn stepUp timeoutStep preparedDone movedAccept acceptedDone loggedOn loggedStep decideVote decideCount decidePromised decideAccepted decideAcceptReply notAbove leastMajority withBar withFallen has insert count countIn makeBatch noteKey noteKeys newKeys placeIn overfullIn scan counts
 asked-sends = refl
 
 pub asked-stands : (stands (told (play first asked) third .replica) 0 .ballot ≡ 257) × (stands (told (play first asked) third .replica) 0 .prepare ≡ 11)
-unfolding atPlace asked newReplica fit fitScalars fitSlots fitReads fitSlot filled noting settled countedOn votedOn repliedOn replyOn prepareReplyStep prepareOn prepareStep lastUsed acceptReplyStep firstOpen lastOpen leadOn stepUp timeoutStep preparedDone movedAccept acceptedDone loggedOn loggedStep decideVote decideCount decidePromised decideAccepted decideAcceptReply notAbove leastMajority withBar withFallen has insert count countIn makeBatch noteKey noteKeys newKeys placeIn overfullIn scan
+unfolding atPlace asked newReplica fit fitScalars fitSlots fitReads fitSlot filled noting settled countedOn votedOn repliedOn replyOn prepareReplyStep prepareOn prepareStep lastUsed acceptReplyStep firstOpen lastOpen leadOn stepUp timeoutStep preparedDone movedAccept acceptedDone loggedOn loggedStep decideVote decideCount decidePromised decideAccepted decideAcceptReply notAbove leastMajority withBar withFallen has insert count countIn makeBatch noteKey noteKeys newKeys placeIn overfullIn scan counts
 asked-stands = (refl, refl)
 
 -- a reign: the step-up, and what follows it up to that reply; so each of the three has answered at 257
@@ -149,7 +150,7 @@ unfoldable pub since : List Lent
 since = lend (callPrepareReply 1 (reply 0 0 257)) ∷ lend (callLogged (completion PrepareBal 0 257 40)) ∷ []
 
 pub reigns-met : Reigns first stepUp0 since
-unfolding since newReplica fit fitScalars fitSlots fitReads fitSlot filled noting settled countedOn votedOn repliedOn replyOn prepareReplyStep prepareOn prepareStep lastUsed acceptReplyStep firstOpen lastOpen leadOn stepUp timeoutStep preparedDone movedAccept acceptedDone loggedOn loggedStep decideVote decideCount decidePromised decideAccepted decideAcceptReply notAbove leastMajority withBar withFallen has insert count countIn makeBatch noteKey noteKeys newKeys placeIn overfullIn scan
+unfolding since newReplica fit fitScalars fitSlots fitReads fitSlot filled noting settled countedOn votedOn repliedOn replyOn prepareReplyStep prepareOn prepareStep lastUsed acceptReplyStep firstOpen lastOpen leadOn stepUp timeoutStep preparedDone movedAccept acceptedDone loggedOn loggedStep decideVote decideCount decidePromised decideAccepted decideAcceptReply notAbove leastMajority withBar withFallen has insert count countIn makeBatch noteKey noteKeys newKeys placeIn overfullIn scan counts
 reigns-met =
     record {
       good = good-new 0 5 0 0 refl;
@@ -160,7 +161,7 @@ reigns-met =
     }
 
 pub accept-sent-met : act (Accept (proposal 0 257 emptyBatch)) (emptyBatch .keys) ∈ told (play first (stepUp0 ∷ since)) third .actions
-unfolding since newReplica fit fitScalars fitSlots fitReads fitSlot filled noting settled countedOn votedOn repliedOn replyOn prepareReplyStep prepareOn prepareStep lastUsed acceptReplyStep firstOpen lastOpen leadOn stepUp timeoutStep preparedDone movedAccept acceptedDone loggedOn loggedStep decideVote decideCount decidePromised decideAccepted decideAcceptReply notAbove leastMajority withBar withFallen has insert count countIn makeBatch noteKey noteKeys newKeys placeIn overfullIn scan
+unfolding since newReplica fit fitScalars fitSlots fitReads fitSlot filled noting settled countedOn votedOn repliedOn replyOn prepareReplyStep prepareOn prepareStep lastUsed acceptReplyStep firstOpen lastOpen leadOn stepUp timeoutStep preparedDone movedAccept acceptedDone loggedOn loggedStep decideVote decideCount decidePromised decideAccepted decideAcceptReply notAbove leastMajority withBar withFallen has insert count countIn makeBatch noteKey noteKeys newKeys placeIn overfullIn scan counts
 accept-sent-met = List·Memᴰ·tail (List·Memᴰ·head refl)
 
 first-trigger : leadTrigger first ≡ 0
@@ -175,7 +176,7 @@ unfoldable pub promised : List Lent
 promised = lend (callPrepare 0 0 257) ∷ []
 
 pub promise-sent : map kindOf (told (play member promised) (lend (callLogged (completion PrepareBal 0 257 40))) .actions) ≡ 5 ∷ []
-unfolding promised newReplica fit fitScalars fitSlots fitReads fitSlot filled noting settled countedOn votedOn repliedOn replyOn prepareReplyStep prepareOn prepareStep lastUsed acceptReplyStep firstOpen lastOpen leadOn stepUp timeoutStep preparedDone movedAccept acceptedDone loggedOn loggedStep decideVote decideCount decidePromised decideAccepted decideAcceptReply notAbove leastMajority withBar withFallen has insert count countIn makeBatch noteKey noteKeys newKeys placeIn overfullIn scan
+unfolding promised newReplica fit fitScalars fitSlots fitReads fitSlot filled noting settled countedOn votedOn repliedOn replyOn prepareReplyStep prepareOn prepareStep lastUsed acceptReplyStep firstOpen lastOpen leadOn stepUp timeoutStep preparedDone movedAccept acceptedDone loggedOn loggedStep decideVote decideCount decidePromised decideAccepted decideAcceptReply notAbove leastMajority withBar withFallen has insert count countIn makeBatch noteKey noteKeys newKeys placeIn overfullIn scan counts
 promise-sent = refl
 
 -- ── two commits: member 0 of three by its own entry, after 1's reply; member 1 by the replies of 0 and 2 ──
@@ -194,11 +195,11 @@ byReply =
     lend (callTimeout 1) ∷ lend (callPrepareReply 0 (reply 0 0 258)) ∷ lend (callPrepareReply 2 (reply 0 0 258)) ∷ lend (callAcceptReply 0 0 258) ∷ []
 
 pub own-commits-met : commitOf 0 257 ∈ step (play (leader 0) byOwn) 3456 (callLogged (completion AcceptData 0 257 80)) .actions
-unfolding byOwn newReplica fit fitScalars fitSlots fitReads fitSlot filled noting settled countedOn votedOn repliedOn replyOn prepareReplyStep prepareOn prepareStep lastUsed acceptReplyStep firstOpen lastOpen leadOn stepUp timeoutStep preparedDone movedAccept acceptedDone loggedOn loggedStep decideVote decideCount decidePromised decideAccepted decideAcceptReply notAbove leastMajority withBar withFallen has insert count countIn makeBatch noteKey noteKeys newKeys placeIn overfullIn scan
+unfolding byOwn newReplica fit fitScalars fitSlots fitReads fitSlot filled noting settled countedOn votedOn repliedOn replyOn prepareReplyStep prepareOn prepareStep lastUsed acceptReplyStep firstOpen lastOpen leadOn stepUp timeoutStep preparedDone movedAccept acceptedDone loggedOn loggedStep decideVote decideCount decidePromised decideAccepted decideAcceptReply notAbove leastMajority withBar withFallen has insert count countIn makeBatch noteKey noteKeys newKeys placeIn overfullIn scan counts
 own-commits-met = List·Memᴰ·head refl
 
 pub reply-commits-met : commitOf 0 258 ∈ step (play (leader 1) byReply) 3456 (callAcceptReply 2 0 258) .actions
-unfolding byReply newReplica fit fitScalars fitSlots fitReads fitSlot filled noting settled countedOn votedOn repliedOn replyOn prepareReplyStep prepareOn prepareStep lastUsed acceptReplyStep firstOpen lastOpen leadOn stepUp timeoutStep preparedDone movedAccept acceptedDone loggedOn loggedStep decideVote decideCount decidePromised decideAccepted decideAcceptReply notAbove leastMajority withBar withFallen has insert count countIn makeBatch noteKey noteKeys newKeys placeIn overfullIn scan
+unfolding byReply newReplica fit fitScalars fitSlots fitReads fitSlot filled noting settled countedOn votedOn repliedOn replyOn prepareReplyStep prepareOn prepareStep lastUsed acceptReplyStep firstOpen lastOpen leadOn stepUp timeoutStep preparedDone movedAccept acceptedDone loggedOn loggedStep decideVote decideCount decidePromised decideAccepted decideAcceptReply notAbove leastMajority withBar withFallen has insert count countIn makeBatch noteKey noteKeys newKeys placeIn overfullIn scan counts
 reply-commits-met = List·Memᴰ·head refl
 
 -- so the hypotheses of commit-by-own, commit-by-reply and commits-meet are met

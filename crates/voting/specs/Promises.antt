@@ -23,7 +23,7 @@ use Rattle.actions.specs.Actions.{Act, act, saysActs}
 use Rattle.decide.specs.declared.Scalars.{Scalars}
 use Rattle.decide.specs.declared.Decided.{Decided}
 use Rattle.decide.specs.Scalars.{isPeer, stepsDown, followed}
-use Rattle.decide.specs.Decide.{decideAccept, decideOffer, proposal}
+use Rattle.decide.specs.Decide.{namesOther, decideAccept, decideOffer, proposal}
 use Rattle.window.specs.declared.Window.{Window}
 use Rattle.window.specs.Window.{slotAt, grown, lastUsed}
 use Rattle.window.specs.Acts.{promise}
@@ -81,10 +81,10 @@ seen-never-falls r room c = go c
         (λ f. record {
           only = λ u. same;
           own = λ e o. record { passed = λ f t. same; heard = λ f t. same; counted = λ f t. same; entered = λ f t q. same };
-          promised = λ e n. same;
-          acked = λ e. same;
-          commits = λ e a q. same;
-          answered = λ e n. same;
+          promised = λ e _ n. same;
+          acked = λ e _. same;
+          commits = λ e _ a q. same;
+          answered = λ e _ n. same;
           passes = λ e. same;
         })
     go (callOffer b) = offerStep-ways (of (seesNoLess r)) r room b (λ a l. same) (λ f. same)
@@ -173,6 +173,10 @@ module _ (r : Replica) (room peer trigger ballot : ℕ) (f : ready r room ≡ tr
 abbrev pub acceptHigh : Replica → ℕ → ℕ → Bool
 acceptHigh r slot ballot = ltb ballot (slotAt (worked r slot) (place (r .sc) slot) .ballot)
 
+-- 15: it names another batch for a slot that a strict replica has committed
+abbrev pub acceptOther : Replica → ℕ → Batch → Bool
+acceptOther r slot b = namesOther (r .sc) (slotAt (worked r slot) (place (r .sc) slot)) (clean b)
+
 abbrev pub takenEntry : ℕ → ℕ → Batch → Act
 takenEntry slot ballot b = act (AcceptData (proposal slot ballot (clean b))) (clean b .keys)
 
@@ -187,22 +191,26 @@ accept-entry-in sc slot ballot b =
 module _ (r : Replica) (room peer slot ballot : ℕ) (b : Batch) (f : ready r room ≡ true) (p : isPeer (r .sc) peer ≡ true) (o : owns ballot peer ≡ true)
     (q : isBatch (b .id) (b .count) ≡ true) (l : r .sc .start ≤ slot) (u : slot < r .sc .start + 64) where
   accept-on : acceptOn r (worked r slot) (place (r .sc) slot) peer slot ballot (clean b)
-      ≡ pick (acceptHigh r slot ballot) (kept 6 r) (pick (overfull (r .keys) (clean b)) (kept 7 r) (accepted r peer slot ballot b))
+      ≡ pick (acceptOther r slot b) (kept 15 r) (pick (acceptHigh r slot ballot) (kept 6 r) (pick (overfull (r .keys) (clean b)) (kept 7 r) (accepted r peer slot ballot b)))
   unfolding settled noting decideAccept
   accept-on =
       pick-cases
-      (λ (d : Decided). settled r (worked r slot) (place (r .sc) slot) slot d ≡ pick (acceptHigh r slot ballot) (kept 6 r) (pick (overfull (r .keys) (clean b)) (kept 7 r) (accepted r peer slot ballot b)))
-      (acceptHigh r slot ballot) (λ t. rw t) (λ t. rw t)
+      (λ (d : Decided). settled r (worked r slot) (place (r .sc) slot) slot d ≡ pick (acceptOther r slot b) (kept 15 r) (pick (acceptHigh r slot ballot) (kept 6 r) (pick (overfull (r .keys) (clean b)) (kept 7 r) (accepted r peer slot ballot b))))
+      (acceptOther r slot b) (λ t. rw t)
+      (λ o.
+      pick-cases
+      (λ (d : Decided). settled r (worked r slot) (place (r .sc) slot) slot d ≡ pick (acceptOther r slot b) (kept 15 r) (pick (acceptHigh r slot ballot) (kept 6 r) (pick (overfull (r .keys) (clean b)) (kept 7 r) (accepted r peer slot ballot b))))
+      (acceptHigh r slot ballot) (λ t. rw (o, t)) (λ t. rw (o, t)))
 
-  -- the four ways, with no fifth
+  -- the five ways, with no sixth
   accept-does : acceptStep r room peer slot ballot b
-      ≡ pick (ltb ballot (r .sc .«bal_max_seen»)) (kept 0 r) (pick (acceptHigh r slot ballot) (kept 6 r) (pick (overfull (r .keys) (clean b)) (kept 7 r) (accepted r peer slot ballot b)))
+      ≡ pick (ltb ballot (r .sc .«bal_max_seen»)) (kept 0 r) (pick (acceptOther r slot b) (kept 15 r) (pick (acceptHigh r slot ballot) (kept 6 r) (pick (overfull (r .keys) (clean b)) (kept 7 r) (accepted r peer slot ballot b))))
   unfolding acceptStep
   accept-does = rw (f, p, o, q, le-ltb slot (r .sc .start) l, lt-leb (r .sc .start + 64) slot u, accept-on)
 
   pub accept-told : step r room (callAccept peer slot ballot b)
       ≡ summed
-      (pick (ltb ballot (r .sc .«bal_max_seen»)) (kept 0 r) (pick (acceptHigh r slot ballot) (kept 6 r) (pick (overfull (r .keys) (clean b)) (kept 7 r) (accepted r peer slot ballot b))))
+      (pick (ltb ballot (r .sc .«bal_max_seen»)) (kept 0 r) (pick (acceptOther r slot b) (kept 15 r) (pick (acceptHigh r slot ballot) (kept 6 r) (pick (overfull (r .keys) (clean b)) (kept 7 r) (accepted r peer slot ballot b)))))
   accept-told = ap summed accept-does
 
   pub accept-below : ballot < r .sc .«bal_max_seen» → step r room (callAccept peer slot ballot b) ≡ kept 0 r
@@ -215,19 +223,20 @@ module _ (r : Replica) (room peer slot ballot : ℕ) (b : Batch) (f : ready r ro
   AcceptActs = (step r room (callAccept peer slot ballot b) .answer ≡ 0) × (takenEntry slot ballot b ∈ step r room (callAccept peer slot ballot b) .actions)
 
   abbrev pub MayAccept : Type 0
-  MayAccept = (r .sc .«bal_max_seen» ≤ ballot) × (acceptHigh r slot ballot ≡ false) × (overfull (r .keys) (clean b) ≡ false)
+  MayAccept = (r .sc .«bal_max_seen» ≤ ballot) × (acceptOther r slot b ≡ false) × (acceptHigh r slot ballot ≡ false) × (overfull (r .keys) (clean b) ≡ false)
 
   accept-only : AcceptActs → MayAccept
   accept-only (a, m) =
       let P : Outcome → Type 0 = λ z. takenEntry slot ballot b ∈ z .actions → MayAccept in
       pick-cases P (ltb ballot (r .sc .«bal_max_seen»)) (λ x n. absurd (List·Memᴰ·not-nil n))
-      (λ x. pick-cases P (acceptHigh r slot ballot) (λ y n. absurd (List·Memᴰ·not-nil n))
-      (λ y. pick-cases P (overfull (r .keys) (clean b)) (λ z n. absurd (List·Memᴰ·not-nil n)) (λ z n. (ltb-false ballot (r .sc .«bal_max_seen») x, y, z))))
+      (λ x. pick-cases P (acceptOther r slot b) (λ o n. absurd (List·Memᴰ·not-nil n))
+      (λ o. pick-cases P (acceptHigh r slot ballot) (λ y n. absurd (List·Memᴰ·not-nil n))
+      (λ y. pick-cases P (overfull (r .keys) (clean b)) (λ z n. absurd (List·Memᴰ·not-nil n)) (λ z n. (ltb-false ballot (r .sc .«bal_max_seen») x, o, y, z)))))
       (subst (λ (z : Outcome). takenEntry slot ballot b ∈ z .actions) accept-told m)
 
   accept-then : MayAccept → AcceptActs
-  accept-then (x, y, z) =
-      let d : acceptStep r room peer slot ballot b ≡ accepted r peer slot ballot b = accept-does ∙ rw (le-ltb ballot (r .sc .«bal_max_seen») x, y, z) in
+  accept-then (x, o, y, z) =
+      let d : acceptStep r room peer slot ballot b ≡ accepted r peer slot ballot b = accept-does ∙ rw (le-ltb ballot (r .sc .«bal_max_seen») x, o, y, z) in
       let e : step r room (callAccept peer slot ballot b) ≡ summed (accepted r peer slot ballot b) = ap summed d in
       (ap (λ (w : Outcome). w .answer) e, subst (λ (w : Outcome). takenEntry slot ballot b ∈ w .actions) (sym e) (accept-entry-in (r .sc) slot ballot b))
 

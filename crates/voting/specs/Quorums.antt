@@ -136,13 +136,13 @@ own-commits r slot said bal size h f =
       only = λ u. never slot said;
       own = other-entry AcceptData PrepareBal refl;
       promised = other-entry AcceptData PrepareBal refl;
-      acked = λ x. never slot said;
-      commits = λ x a k m.
+      acked = λ x _. never slot said;
+      commits = λ x _ a k m.
           committed-by r (logged r d .window) (place (r .sc) slot) (r .sc .id) (loggedAt r d) (f .fits) (whole-put (r .window) (place (r .sc) slot) _ h) refl l (g .numbers .member)
           (ap (λ (v : Slot). v .leader) e ∙ logged-keeps (λ (v : Slot). v .leader) (λ s n. refl) (r .sc .«wal_offset») (slotAt (r .window) (place (r .sc) slot)))
           (ap (λ (v : Slot). v .status) e ∙ logged-keeps (λ (v : Slot). v .status) (λ s n. refl) (r .sc .«wal_offset») (slotAt (r .window) (place (r .sc) slot)))
           (a .leading) (a .status) (a .new) k;
-      answered = λ x n. other-act slot said _ (λ z. omega arith);
+      answered = λ x _ n. other-act slot said _ (λ z. omega arith);
       passes = other-entry AcceptData CommitEntry refl;
     }
 

@@ -20,7 +20,7 @@ use Rattle.slots.specs.declared.Slot.{Slot}
 use Rattle.slots.specs.Slots.{newBook, redoneSlot, preparedSlot, enteredSlot, markedSlot, passedSlot, loggedSlot, committed, executed, nullSlot}
 use Rattle.decide.specs.declared.Scalars.{Scalars}
 use Rattle.decide.specs.declared.Reply.{Reply}
-use Rattle.decide.specs.Scalars.{leads, isPeer, following, followed, steppedUp, mayBe}
+use Rattle.decide.specs.Scalars.{leads, isPeer, strict, following, followed, steppedUp, mayBe}
 use Rattle.decide.specs.Decide.{decideOffer}
 use Rattle.window.specs.declared.Window.{Window}
 use Rattle.window.specs.Window.{slotAt, putSlot, sweep, grown, noSlots, firstOpen}
@@ -39,9 +39,9 @@ use Rattle.replica.specs.ActingLaws.{Summed}
 use Rattle.laws.specs.OfFit.{fit-facts}
 use Rattle.laws.specs.Theorems.{never-fourteen}
 use Rattle.laws.specs.Summaries.{sums-summed, summed-sums, new-sums, summed-stays}
-use Rattle.laws.specs.Counts.{heard-long, counted-long}
+use Rattle.laws.specs.Counts.{noted-long, heard-long, counted-long}
 use Rattle.laws.specs.WaysMessages.{Peer, Prepares, prepareEnd, prepared, prepareStep-ways, Accepts, accepted, acceptStep-ways, acceptReplyStep-ways}
-use Rattle.laws.specs.WaysReply.{replyWindow, replySlot, heardWindow, countedWindow, Answers, reply-place}
+use Rattle.laws.specs.WaysReply.{grownWindow, replyWindow, replySlot, heardWindow, countedWindow, Answers, reply-place}
 use Rattle.laws.specs.WaysLeadership.{leadWindow, leadTrigger, leadEnd, leadFrom, Leads, timeoutStep-ways, markWindow, markFrom, markEnd, marked, Marks, commitNoticeStep-ways, leads-up}
 use Rattle.laws.specs.WaysDurability.{logged, loggedAt, passFrom}
 use Rattle.laws.specs.WaysAdded.{Offers, offered, offerStep-ways, executedStep-ways}
@@ -52,7 +52,7 @@ use Rattle.voting.specs.History.{Lent, told, play}
 use Rattle.voting.specs.Claims.{core, Claim, of, open-read-way, read-reply-way}
 use Rattle.voting.specs.Replying.{enteredWindow, ReplyWays, prepare-reply-way}
 use Rattle.voting.specs.Logging.{ownAnswer, LogWays, logged-way}
-use Rattle.voting.specs.Promises.{worked, prepareHigh, PrepareActs, prepare-iff, AcceptActs, accept-iff, acceptHigh}
+use Rattle.voting.specs.Promises.{worked, prepareHigh, PrepareActs, prepare-iff, AcceptActs, accept-iff, acceptOther, acceptHigh}
 
 -- ── the invariant ──
 pub record Good (sc : Scalars) (w : Window) : Type 0 where
@@ -114,31 +114,32 @@ abbrev ballot-of : Slot → ℕ
 ballot-of s = s .ballot
 
 module _ (r : Replica) (peer : ℕ) (m : Reply) (g : Good (r .sc) (r .window)) where
-  wide-low : Answers r m → (i : ℕ) → atPlace (replyWindow r m) i .ballot ≤ r .sc .«bal_max_seen»
+  wide-low : Answers r m → (i : ℕ) → atPlace (replyWindow r peer m) i .ballot ≤ r .sc .«bal_max_seen»
   wide-low f i =
-      appended-cases (λ (x : Slot). x .ballot ≤ r .sc .«bal_max_seen») r (place (r .sc) (m .slot)) (place (r .sc) (m .trigger)) i
-      (let u = reply-place r m f in let z = g .whole in omega arith) (λ l. g .sent) (g .slots i)
+      subst (λ (x : ℕ). x ≤ r .sc .«bal_max_seen») (sym (put-keeps ballot-of (grownWindow r m) (place (r .sc) (m .slot)) i _ refl))
+      (appended-cases (λ (x : Slot). x .ballot ≤ r .sc .«bal_max_seen») r (place (r .sc) (m .slot)) (place (r .sc) (m .trigger)) i
+      (let u = reply-place r m f in let z = g .whole in omega arith) (λ l. g .sent) (g .slots i))
 
-  weighed-same : (i : ℕ) → atPlace (heardWindow r m) i .ballot ≡ atPlace (replyWindow r m) i .ballot
-  weighed-same i = put-keeps ballot-of (replyWindow r m) (place (r .sc) (m .slot)) i _ (heard-keeps ballot-of (replySlot r m) m refl)
+  weighed-same : (i : ℕ) → atPlace (heardWindow r peer m) i .ballot ≡ atPlace (replyWindow r peer m) i .ballot
+  weighed-same i = put-keeps ballot-of (replyWindow r peer m) (place (r .sc) (m .slot)) i _ (heard-keeps ballot-of (replySlot r peer m) m refl)
 
-  counted-same : (i : ℕ) → atPlace (countedWindow r peer m) i .ballot ≡ atPlace (replyWindow r m) i .ballot
-  counted-same i = put-keeps ballot-of (heardWindow r m) (place (r .sc) (m .trigger)) i _ refl ∙ weighed-same i
+  counted-same : (i : ℕ) → atPlace (countedWindow r peer m) i .ballot ≡ atPlace (replyWindow r peer m) i .ballot
+  counted-same i = put-keeps ballot-of (heardWindow r peer m) (place (r .sc) (m .trigger)) i _ refl ∙ weighed-same i
 
-  entered-same : (i : ℕ) → atPlace (enteredWindow r peer m) i .ballot ≡ atPlace (replyWindow r m) i .ballot
+  entered-same : (i : ℕ) → atPlace (enteredWindow r peer m) i .ballot ≡ atPlace (replyWindow r peer m) i .ballot
   entered-same i =
-      sweep-keeps ballot-of (λ k s. enteredSlot s) (λ k s. entered-keeps ballot-of (λ s n. refl) s) (place (r .sc) (m .trigger)) (countedWindow r peer m .len) (countedWindow r peer m) i
+      sweep-keeps ballot-of (λ k s. enteredSlot (strict (r .sc)) (m .ballot) s) (λ k s. entered-keeps ballot-of (λ s n. refl) (strict (r .sc)) (m .ballot) (λ s. refl) s) (place (r .sc) (m .trigger)) (countedWindow r peer m .len) (countedWindow r peer m) i
       ∙ counted-same i
 
   reply-good : ReplyWays good r peer m
   reply-good =
       record {
-        passed = λ f t. re (r .sc) (r .window) (replyWindow r m) g (appended-long r (place (r .sc) (m .slot)) (place (r .sc) (m .trigger)) ∙ g .whole) (wide-low f);
-        heard = λ f t. re (r .sc) (r .window) (heardWindow r m) g (heard-long r peer m ∙ g .whole) (λ i. omega (arith, weighed-same i, wide-low f i));
+        passed = λ f t. re (r .sc) (r .window) (replyWindow r peer m) g (noted-long r peer m ∙ g .whole) (wide-low f);
+        heard = λ f t. re (r .sc) (r .window) (heardWindow r peer m) g (heard-long r peer m ∙ g .whole) (λ i. omega (arith, weighed-same i, wide-low f i));
         counted = λ f t. re (r .sc) (r .window) (countedWindow r peer m) g (counted-long r peer m ∙ g .whole) (λ i. omega (arith, counted-same i, wide-low f i));
         entered = λ f t q.
             record {
-              whole = sweep-long (λ k s. enteredSlot s) (place (r .sc) (m .trigger)) (countedWindow r peer m .len) (countedWindow r peer m) ∙ counted-long r peer m ∙ g .whole;
+              whole = sweep-long (λ k s. enteredSlot (strict (r .sc)) (m .ballot) s) (place (r .sc) (m .trigger)) (countedWindow r peer m .len) (countedWindow r peer m) ∙ counted-long r peer m ∙ g .whole;
               slots = λ i. omega (arith, entered-same i, wide-low f i);
               sent = g .sent;
               prepared = omega (arith, f .sent, g .sent);
@@ -165,7 +166,7 @@ after-good r d g =
     record { whole = p .whole; slots = p .slots; sent = p .sent; prepared = p .prepared; leading = p .leading }
 
 step-up-good : (r : Replica) (source b : ℕ) → Good (r .sc) (r .window) → Leads r source b
-    → Good (core (steppedUp (r .sc) b))
+    → Good (core (steppedUp (r .sc) (leadTrigger r) b))
     (sweep (λ i s. redoneSlot b (newBook (leadTrigger r) (leadEnd r)) s) (leadFrom r) (leadWindow r .len)
     (leadWindow r))
 step-up-good r source b g f =
@@ -191,8 +192,8 @@ prepare-good r peer trigger ballot g f =
     let k = worked-most r trigger (f .fits) (f .high) in
     let w = whole-grown (r .window) (place (r .sc) trigger + 1) (g .whole) in
     follow (r .sc) (r .window) _ peer ballot g (f .peer-is) (f .seen)
-    (whole-sweep (λ i s. preparedSlot ballot (prepareBook (r .sc) (worked r trigger) (place (r .sc) trigger) peer) s) (place (r .sc) trigger) (prepareEnd r trigger) (worked r trigger) w)
-    (λ i. sweep-cases (λ i s. preparedSlot ballot (prepareBook (r .sc) (worked r trigger) (place (r .sc) trigger) peer) s) (place (r .sc) trigger) (prepareEnd r trigger) (worked r trigger) (λ (x : Slot). x .ballot ≤ ballot) i (omega arith)
+    (whole-sweep (λ i s. preparedSlot (strict (r .sc)) ballot (prepareBook (r .sc) (worked r trigger) (place (r .sc) trigger) peer) s) (place (r .sc) trigger) (prepareEnd r trigger) (worked r trigger) w)
+    (λ i. sweep-cases (λ i s. preparedSlot (strict (r .sc)) ballot (prepareBook (r .sc) (worked r trigger) (place (r .sc) trigger) peer) s) (place (r .sc) trigger) (prepareEnd r trigger) (worked r trigger) (λ (x : Slot). x .ballot ≤ ballot) i (omega arith)
     (λ x y z. le-refl ballot)
     (λ out. omega (arith, ap (λ (x : Slot). x .ballot) (worked-at r trigger i (g .whole) (f .high)), g .slots i, f .seen)))
 
@@ -239,10 +240,10 @@ log-good r d g =
     record {
       only = λ u. only;
       own = λ e o. reply-good (logged r d) (r .sc .id) (ownAnswer r d) a;
-      promised = λ e n. only;
-      acked = λ e. put _ refl;
-      commits = λ e k q. put _ refl;
-      answered = λ e n. only;
+      promised = λ e _ n. only;
+      acked = λ e _. put _ refl;
+      commits = λ e _ k q. put _ refl;
+      answered = λ e _ n. only;
       passes = λ e. pass-good (logged r d) (logged r d .window) (passFrom (logged r d)) (passStop (logged r d)) a;
     }
 
@@ -325,10 +326,10 @@ module _ (r : Replica) (g : Good (r .sc) (r .window)) (room peer slot ballot : �
   reached-prepare-iff =
       (λ a. prepare-iff r room peer slot ballot f p o l u .0 a .0, λ s. prepare-iff r room peer slot ballot f p o l u .1 (s, never-high r slot ballot g u s))
 
-  pub reached-accept-iff : (b : Batch) (q : isBatch (b .id) (b .count) ≡ true) → overfull (r .keys) (clean b) ≡ false
+  pub reached-accept-iff : (b : Batch) (q : isBatch (b .id) (b .count) ≡ true) → acceptOther r slot b ≡ false → overfull (r .keys) (clean b) ≡ false
       → AcceptActs r room peer slot ballot b f p o q l u ↔ (r .sc .«bal_max_seen» ≤ ballot)
-  reached-accept-iff b q k =
-      (λ a. accept-iff r room peer slot ballot b f p o q l u .0 a .0, λ s. accept-iff r room peer slot ballot b f p o q l u .1 (s, never-high-accept r slot ballot g u s, k))
+  reached-accept-iff b q n k =
+      (λ a. accept-iff r room peer slot ballot b f p o q l u .0 a .0, λ s. accept-iff r room peer slot ballot b f p o q l u .1 (s, n, never-high-accept r slot ballot g u s, k))
 
 -- 02, Wish 1: of every replica that calls lead to from a new one the summary is the walk's
 play-summed : (r : Replica) (h : List Lent) → Summed r → Summed (play r h)

@@ -47,7 +47,7 @@ use Rattle.voting.specs.Logging.{ownAnswer, LogWays, logged-way}
 use Rattle.voting.specs.Promises.{play-grows}
 use Rattle.voting.specs.Reached.{Good, good-step, good-play, follows-none}
 use Rattle.voting.specs.Quorums.{kindOf}
-use Rattle.voting.specs.Backing.{Standing, stands, Stood, PrepareAck, Once, heard-same, entered-same, after-same}
+use Rattle.voting.specs.Backing.{Standing, stands, Stood, PrepareAck, Once, noted-same, heard-same, entered-same, after-same}
 use Rattle.voting.specs.Majorities.{ByMajority, enter-by-majority, own-enter-by-majority, answered-over}
 
 abbrev ballot-of : Slot → ℕ
@@ -58,15 +58,16 @@ abbrev staysAt : ℕ → ℕ → Claim
 staysAt i b a sc w acts = leads sc ≡ true → sc .«bal_prep_sent» ≡ b → atPlace w i .ballot ≡ b
 
 module _ (r : Replica) (peer : ℕ) (m : Reply) (i b : ℕ) (h : Whole (r .window)) (same : r .sc .«bal_prep_sent» ≡ b) (at : stands r i .ballot ≡ b) where
-  wide-at : Answers r m → atPlace (replyWindow r m) i .ballot ≡ b
+  wide-at : Answers r m → atPlace (replyWindow r peer m) i .ballot ≡ b
   wide-at f =
-      appended-cases (λ (x : Slot). x .ballot ≡ b) r (place (r .sc) (m .slot)) (place (r .sc) (m .trigger)) i (let u = reply-place r m f in omega arith) (λ l. same) at
+      ap (λ (x : Standing). x .ballot) (noted-same r peer m i)
+      ∙ appended-cases (λ (x : Slot). x .ballot ≡ b) r (place (r .sc) (m .slot)) (place (r .sc) (m .trigger)) i (let u = reply-place r m f in omega arith) (λ l. same) at
 
-  heard-at : Answers r m → atPlace (heardWindow r m) i .ballot ≡ b
-  heard-at f = ap (λ (x : Standing). x .ballot) (heard-same r m i) ∙ wide-at f
+  heard-at : Answers r m → atPlace (heardWindow r peer m) i .ballot ≡ b
+  heard-at f = ap (λ (x : Standing). x .ballot) (heard-same r peer m i) ∙ wide-at f
 
   counted-at : Answers r m → atPlace (countedWindow r peer m) i .ballot ≡ b
-  counted-at f = put-keeps ballot-of (heardWindow r m) (place (r .sc) (m .trigger)) i _ refl ∙ heard-at f
+  counted-at f = put-keeps ballot-of (heardWindow r peer m) (place (r .sc) (m .trigger)) i _ refl ∙ heard-at f
 
   reply-at : ReplyWays (staysAt i b) r peer m
   reply-at =
@@ -87,10 +88,10 @@ module _ (r : Replica) (i b : ℕ) (g : Good (r .sc) (r .window)) (s : Stood r i
       record {
         only = λ u l q. e;
         own = λ z o. reply-at (logged r d) (r .sc .id) (ownAnswer r d) i b (whole-put (r .window) (place (r .sc) (d .slot)) _ (g .whole)) (s .same) e;
-        promised = λ z n l q. e;
-        acked = λ z l q. put _ refl;
-        commits = λ z a k l q. put _ refl;
-        answered = λ z n l q. e;
+        promised = λ z _ n l q. e;
+        acked = λ z _ l q. put _ refl;
+        commits = λ z _ a k l q. put _ refl;
+        answered = λ z _ n l q. e;
         passes = λ z l q.
             sweep-keeps ballot-of (λ k v. passedSlot v) (λ k v. passed-keeps ballot-of (λ s n. refl) v) (passFrom (logged r d)) (passStop (logged r d)) (logged r d .window) i ∙ e;
       }
@@ -154,7 +155,7 @@ unfolding firstOpen
 open-stops w l = scan-stopped (λ i. leb committed (slotAt w i .status)) 0 (w .len) l
 
 -- the first slot below Committed, the Prepare's trigger: it is below Committed
-open-low : (w : Window) → atPlace w (firstOpen w) .status < 3
+pub open-low : (w : Window) → atPlace w (firstOpen w) .status < 3
 open-low w = go (decide (ltb (firstOpen w) (w .len)))
   where
     go : (ltb (firstOpen w) (w .len) ≡ true) ⊎ (ltb (firstOpen w) (w .len) ≡ false) → atPlace w (firstOpen w) .status < 3

@@ -1,6 +1,6 @@
 -- What a call says, and when: replies come from log completions alone; an accept entry is never below what was promised.
-use mathlib.Core.Path.{_≡_, ap}
-use mathlib.Core.Bool.{false, not, _||_, _&&_}
+use mathlib.Core.Path.{_≡_, refl, sym, ap, _∙_}
+use mathlib.Core.Bool.{true, false, not, _||_, _&&_}
 use mathlib.Core.List.{List, [], _∷_, _++_}
 use Prim.Native.Nat.{ℕ, _+_, _≤_}
 use native.Mathlib.Omega.{arith}
@@ -23,7 +23,7 @@ use Rattle.slots.specs.declared.Vote.{Vote}
 use Rattle.slots.specs.Slots.{preparing, committed}
 use Rattle.decide.specs.declared.Scalars.{Scalars}
 use Rattle.decide.specs.declared.Reply.{Reply}
-use Rattle.decide.specs.Scalars.{leads, stepsDown, notifies}
+use Rattle.decide.specs.Scalars.{leads, strict, stepsDown, notifies}
 use Rattle.decide.specs.Decide.{decideOffer}
 use Rattle.window.specs.Window.{slotAt}
 use Rattle.window.specs.Acts.{promise, enterActs, redoActs, markActs, passActs}
@@ -42,7 +42,7 @@ use Rattle.laws.specs.OfFit.{fit-facts}
 use Rattle.laws.specs.WaysMessages.{prepareEnd, prepareStep-ways, acceptStep-ways, acceptReplyStep-ways}
 use Rattle.laws.specs.WaysReply.{countedWindow, Answers}
 use Rattle.laws.specs.WaysLeadership.{leadWindow, leadTrigger, leadFrom, timeoutStep-ways, markWindow, markFrom, markEnd, commitNoticeStep-ways}
-use Rattle.laws.specs.WaysDurability.{completion, logged, Logs, passFrom}
+use Rattle.laws.specs.WaysDurability.{completion, logged, Logs, passFrom, other-entry}
 use Rattle.laws.specs.WaysAdded.{offerStep-ways, executedStep-ways, openReadStep-ways, readReplyStep-ways, readPlace, readAt, mergedRead}
 use Rattle.voting.specs.History.{Lent, told}
 use Rattle.voting.specs.Claims.{Claim, of}
@@ -55,13 +55,16 @@ use Rattle.voting.specs.Telling.{told-same}
 
 -- ── what is said of one action of a call c at r ──
 -- 2.5: "an acceptor records its intended response in stable storage before actually sending the response": a reply comes from the completion of an
--- entry of its kind for its slot, at the slot's ballot as it is then, whatever the completion's, and not where self leads
+-- entry of its kind for its slot, at the slot's ballot as it is then, and not where self leads. In the base kind whatever the completion's ballot; in the
+-- strict kind (02, Wish 6, (a)) it is the completion's, and for an accept entry also that of the slot's vote
 pub record OnCompletion (r : Replica) (c : Call) (e : Entry) (slot ballot : ℕ) : Type 0 where
   pub bal : ℕ
   pub offset : ℕ
   pub call : c ≡ callLogged (completion e slot bal offset)
   pub follows : leads (r .sc) ≡ false
   pub at : ballot ≡ atPlace (r .window) (place (r .sc) slot) .ballot
+  pub own : strict (r .sc) ≡ true → ballot ≡ bal
+  pub voted : strict (r .sc) ≡ true → e ≡ AcceptEntry → atPlace (r .window) (place (r .sc) slot) .vote .ballot ≡ ballot
 
 -- 2.2, P1a: an accept entry is not below the largest ballot seen
 abbrev pub SaidOf : Replica → Call → Action → Type 0
@@ -143,10 +146,32 @@ log-says r d g f =
     record {
       only = λ u. tt;
       own = λ e o. reply-says r (callLogged d) (logged r d) (r .sc .id) (ownAnswer r d) (λ q. let x = g .leading (q .leading) in let y = q .sent in omega arith);
-      promised = λ e n. (record { bal = d .ballot; offset = d .size; call = ap (λ (x : Entry). callLogged (completion x (d .slot) (d .ballot) (d .size))) e; follows = n; at = t .1 }, tt);
-      acked = λ e. tt;
-      commits = λ e a q. (tt, tt);
-      answered = λ e n. (record { bal = d .ballot; offset = d .size; call = ap (λ (x : Entry). callLogged (completion x (d .slot) (d .ballot) (d .size))) e; follows = n; at = t .1 }, tt);
+      promised = λ e h n. (
+        record {
+          bal = d .ballot;
+          offset = d .size;
+          call = ap (λ (x : Entry). callLogged (completion x (d .slot) (d .ballot) (d .size))) e;
+          follows = n;
+          at = t .1;
+          own = h .slot;
+          voted = λ k. other-entry PrepareEntry AcceptEntry refl;
+        },
+        tt,
+      );
+      acked = λ e _. tt;
+      commits = λ e _ a q. (tt, tt);
+      answered = λ e h n. (
+        record {
+          bal = d .ballot;
+          offset = d .size;
+          call = ap (λ (x : Entry). callLogged (completion x (d .slot) (d .ballot) (d .size))) e;
+          follows = n;
+          at = t .1;
+          own = h .slot;
+          voted = λ k z. ap (λ (v : Vote). v .ballot) (sym (t .0)) ∙ h .vote k refl ∙ sym (h .slot k);
+        },
+        tt,
+      );
       passes = λ e. pass-ok r (callLogged d) (logged r d);
     }
 

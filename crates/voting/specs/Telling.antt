@@ -12,7 +12,7 @@ use Rattle.actions.specs.Actions.{Act, act}
 use Rattle.slots.specs.declared.Vote.{Vote}
 use Rattle.slots.specs.declared.Slot.{Slot}
 use Rattle.decide.specs.declared.Scalars.{Scalars}
-use Rattle.decide.specs.Scalars.{leads}
+use Rattle.decide.specs.Scalars.{leads, strict}
 use Rattle.decide.specs.Decide.{sentVote}
 use Rattle.window.specs.Window.{slotAt}
 use Rattle.window.specs.ByPlace.{atPlace, at-here}
@@ -41,15 +41,16 @@ last-in v (x ∷ l) = inr (go (last-in x l))
     go (inl e) = List·Memᴰ·head (e .1)
     go (inr m) = List·Memᴰ·tail m
 
--- 2.2, phase 1 (b): a slot's vote is the highest-numbered of the Accepts taken for it, where one was; on any record with a window of 64 slots
-pub vote-highest : (r : Replica) (h : List Lent) (s : ℕ) → Whole (r .window) → r .sc .start ≤ s
+-- 2.2, phase 1 (b): a base replica's slot's vote is the highest-numbered of the Accepts taken for it, where one was; on any record with a window of 64
+-- slots. What it wrote as a leader is none of them: of the strict kind see `strict-votes` (StrictVotes)
+pub vote-highest : (r : Replica) (h : List Lent) (s : ℕ) → Whole (r .window) → strict (r .sc) ≡ false → r .sc .start ≤ s
     → ((taken r h s ≡ []) × (voteOf (play r h) s ≡ voteOf r s)) ⊎ Highest (taken r h s) (voteOf (play r h) s)
-vote-highest r h s w l = go (last-in (voteOf r s) (taken r h s))
+vote-highest r h s w base l = go (last-in (voteOf r s) (taken r h s))
   where
     go : ((taken r h s ≡ []) × (lastOf (voteOf r s) (taken r h s) ≡ voteOf r s)) ⊎ (lastOf (voteOf r s) (taken r h s) ∈ taken r h s)
         → ((taken r h s ≡ []) × (voteOf (play r h) s ≡ voteOf r s)) ⊎ Highest (taken r h s) (voteOf (play r h) s)
-    go (inl e) = inl (e .0, vote-last r h s w l ∙ e .1)
-    go (inr m) = inr (subst (λ (v : Vote). v ∈ taken r h s) (sym (vote-last r h s w l)) m, vote-largest r h s w l)
+    go (inl e) = inl (e .0, vote-last r h s w base l ∙ e .1)
+    go (inr m) = inr (subst (λ (v : Vote). v ∈ taken r h s) (sym (vote-last r h s w base l)) m, vote-largest r h s w base l)
 
 -- a follower's PrepareReply, at the end of its log entry
 abbrev pub promiseActs : Scalars → Slot → ℕ → List Act
@@ -68,9 +69,10 @@ promiseActs sc s slot =
     ∷ []
 
 -- what a follower says at the end of a PrepareBal entry for slot: nothing, or one answer, with the slot's vote, at the slot's ballot as it is
--- now, whatever the completion's ballot
+-- now: whatever the completion's ballot, in the base kind; in the strict kind it is that (`replies-on-completion`, Speaking)
 pub record Tells (r : Replica) (slot : ℕ) (acts : List Act) : Type 0 where
   pub by : Slot
+  pub low : r .sc .start ≤ slot
   pub votes : by .vote ≡ voteOf r slot
   pub ballot : by .ballot ≡ atPlace (r .window) (place (r .sc) slot) .ballot
   pub says : acts ≡ promiseActs (r .sc) by slot
@@ -96,7 +98,7 @@ promise-ways r slot bal size h n f =
     record {
       only = λ u. inl refl;
       own = λ e o. absurd (clash (o .leading) n);
-      promised = λ e l. inr (record { by = loggedAt r d; votes = t .0; ballot = t .1; says = refl });
+      promised = λ e _ l. inr (record { by = loggedAt r d; low = f .low; votes = t .0; ballot = t .1; says = refl });
       acked = other-entry PrepareBal AcceptData refl;
       commits = other-entry PrepareBal AcceptData refl;
       answered = other-entry PrepareBal AcceptData refl;

@@ -1,4 +1,5 @@
--- The vote of a slot: over any history it is that of the last Accept taken from a peer for the slot, and no Accept taken had a larger ballot.
+-- The vote of a slot in the base kind: over any history it is that of the last Accept taken from a peer for the slot, and no Accept taken had a larger
+-- ballot. The strict kind's is in StrictVotes.
 use mathlib.Core.Path.{_≡_, refl, sym, ap, subst, _∙_}
 use mathlib.Core.Bool.{Bool, true, false, _&&_, and-false}
 use mathlib.Core.List.{List, [], _∷_, _++_}
@@ -19,7 +20,7 @@ use Rattle.slots.specs.declared.Slot.{Slot}
 use Rattle.slots.specs.Slots.{noVote, newBook, redoneSlot, preparedSlot, enteredSlot, markedSlot, passedSlot, acceptedSlot, loggedSlot, withState, withLeader, withExternal, committed, executed, preparing, nullSlot}
 use Rattle.decide.specs.declared.Scalars.{Scalars}
 use Rattle.decide.specs.declared.Reply.{Reply}
-use Rattle.decide.specs.Scalars.{stepsDown, followed}
+use Rattle.decide.specs.Scalars.{strict, stepsDown, followed}
 use Rattle.decide.specs.Decide.{decideOffer}
 use Rattle.window.specs.declared.Window.{Window}
 use Rattle.window.specs.Window.{slotAt, putSlot, grown, firstOpen}
@@ -34,8 +35,9 @@ use Rattle.replica.specs.Added.{movedExec}
 use Rattle.replica.specs.Step.{Call, callPrepare, callPrepareReply, callAccept, callAcceptReply, callCommitNotice, callTimeout, callLogged, callOffer, callExecuted, callOpenRead, callReadReply, step}
 use Rattle.laws.specs.OfScalars.{followed-seen}
 use Rattle.laws.specs.OfFit.{fit-facts}
+use Rattle.laws.specs.Theorems.{kind-stays}
 use Rattle.laws.specs.WaysMessages.{prepareWindow, prepareEnd, prepareStep-ways, Accepts, acceptStep-ways, acceptReplyStep-ways}
-use Rattle.laws.specs.WaysReply.{replyWindow, replySlot, heardWindow, countedWindow, Answers, reply-place}
+use Rattle.laws.specs.WaysReply.{grownWindow, replyWindow, replySlot, heardWindow, countedWindow, Answers, reply-place}
 use Rattle.laws.specs.WaysLeadership.{leadWindow, leadTrigger, leadEnd, leadFrom, timeoutStep-ways, markWindow, markFrom, markEnd, commitNoticeStep-ways}
 use Rattle.laws.specs.WaysDurability.{logged, loggedAt, passFrom}
 use Rattle.laws.specs.WaysAdded.{Offers, offerWindow, offerStep-ways, executedStep-ways}
@@ -86,22 +88,23 @@ votes w a sc v acts = (i : ℕ) → atPlace v i .vote ≡ atPlace w i .vote
 abbrev vote : Slot → Vote
 vote s = s .vote
 
-redone-vote : (ballot trigger endprep : ℕ) (s : Slot) → redoneSlot ballot (newBook trigger endprep) s .vote ≡ s .vote
+pub redone-vote : (ballot trigger endprep : ℕ) (s : Slot) → redoneSlot ballot (newBook trigger endprep) s .vote ≡ s .vote
 redone-vote ballot trigger endprep s =
     pick-both (λ (x : Slot). x .vote ≡ s .vote) (leb executed (s .status)) {a = s} refl
     (pick-both (λ (x : Slot). x .vote ≡ s .vote) (leb committed (s .status)) {a = withExternal s} {b = withLeader (withState (withExternal s) ballot preparing) (newBook trigger endprep)} refl refl)
 
-module _ (w : Window) (r : Replica) (peer : ℕ) (m : Reply) (h : Whole (r .window)) (e : (i : ℕ) → atPlace (r .window) i .vote ≡ atPlace w i .vote) where
-  wide : Answers r m → (i : ℕ) → atPlace (replyWindow r m) i .vote ≡ atPlace w i .vote
+module _ (w : Window) (r : Replica) (peer : ℕ) (m : Reply) (h : Whole (r .window)) (base : strict (r .sc) ≡ false) (e : (i : ℕ) → atPlace (r .window) i .vote ≡ atPlace w i .vote) where
+  wide : Answers r m → (i : ℕ) → atPlace (replyWindow r peer m) i .vote ≡ atPlace w i .vote
   wide f i =
-      appended-cases (λ (x : Slot). x .vote ≡ atPlace w i .vote) r (place (r .sc) (m .slot)) (place (r .sc) (m .trigger)) i (let u = reply-place r m f in omega arith)
+      put-keeps vote (grownWindow r m) (place (r .sc) (m .slot)) i _ refl
+      ∙ appended-cases (λ (x : Slot). x .vote ≡ atPlace w i .vote) r (place (r .sc) (m .slot)) (place (r .sc) (m .trigger)) i (let u = reply-place r m f in omega arith)
       (λ l. ap vote (sym (at-past (r .window) i l)) ∙ e i) (e i)
 
-  weigh : Answers r m → (i : ℕ) → atPlace (heardWindow r m) i .vote ≡ atPlace w i .vote
-  weigh f i = put-keeps vote (replyWindow r m) (place (r .sc) (m .slot)) i _ (heard-keeps vote (replySlot r m) m refl) ∙ wide f i
+  weigh : Answers r m → (i : ℕ) → atPlace (heardWindow r peer m) i .vote ≡ atPlace w i .vote
+  weigh f i = put-keeps vote (replyWindow r peer m) (place (r .sc) (m .slot)) i _ (heard-keeps vote (replySlot r peer m) m refl) ∙ wide f i
 
   count-up : Answers r m → (i : ℕ) → atPlace (countedWindow r peer m) i .vote ≡ atPlace w i .vote
-  count-up f i = put-keeps vote (heardWindow r m) (place (r .sc) (m .trigger)) i _ refl ∙ weigh f i
+  count-up f i = put-keeps vote (heardWindow r peer m) (place (r .sc) (m .trigger)) i _ refl ∙ weigh f i
 
   reply-votes : ReplyWays (votes w) r peer m
   reply-votes =
@@ -110,39 +113,39 @@ module _ (w : Window) (r : Replica) (peer : ℕ) (m : Reply) (h : Whole (r .wind
         heard = λ f t. weigh f;
         counted = λ f t. count-up f;
         entered = λ f t q i.
-            sweep-keeps vote (λ k s. enteredSlot s) (λ k s. entered-keeps vote (λ s n. refl) s) (place (r .sc) (m .trigger)) (countedWindow r peer m .len) (countedWindow r peer m) i ∙ count-up f i;
+            sweep-keeps vote (λ k s. enteredSlot (strict (r .sc)) (m .ballot) s) (λ k s. entered-keeps vote (λ s n. refl) (strict (r .sc)) (m .ballot) (λ s. rw base) s) (place (r .sc) (m .trigger)) (countedWindow r peer m .len) (countedWindow r peer m) i ∙ count-up f i;
       }
 
 put-votes : (w v : Window) (i : ℕ) (s : Slot) → ((j : ℕ) → atPlace v j .vote ≡ atPlace w j .vote) → s .vote ≡ slotAt v i .vote → (j : ℕ) → atPlace (putSlot v i s) j .vote ≡ atPlace w j .vote
 put-votes w v i s e k j = put-keeps vote v i j s k ∙ e j
 
-after-votes : (r : Replica) (d : Done) (j : ℕ) → atPlace (logged r d .window) j .vote ≡ atPlace (r .window) j .vote
+pub after-votes : (r : Replica) (d : Done) (j : ℕ) → atPlace (logged r d .window) j .vote ≡ atPlace (r .window) j .vote
 unfolding loggedOn
 after-votes r d j = put-votes (r .window) (r .window) (place (r .sc) (d .slot)) (loggedSlot (r .sc .«wal_offset») (slotAt (r .window) (place (r .sc) (d .slot)))) (λ i. refl) (logged-keeps vote (λ s n. refl) (r .sc .«wal_offset») (slotAt (r .window) (place (r .sc) (d .slot)))) j
 
-after-whole : (r : Replica) (d : Done) → Whole (r .window) → Whole (logged r d .window)
+pub after-whole : (r : Replica) (d : Done) → Whole (r .window) → Whole (logged r d .window)
 unfolding loggedOn
 after-whole r d h = whole-put (r .window) (place (r .sc) (d .slot)) _ h
 
-log-votes : (r : Replica) (d : Done) → Whole (r .window) → LogWays (votes (r .window)) r d
-unfolding of
-log-votes r d h =
+log-votes : (r : Replica) (d : Done) → Whole (r .window) → strict (r .sc) ≡ false → LogWays (votes (r .window)) r d
+unfolding of loggedOn
+log-votes r d h base =
     let e = after-votes r d in
     let put : (s : Slot) → s .vote ≡ loggedAt r d .vote → (j : ℕ) → atPlace (putSlot (logged r d .window) (place (r .sc) (d .slot)) s) j .vote ≡ atPlace (r .window) j .vote =
     λ s k. put-votes (r .window) (logged r d .window) (place (r .sc) (d .slot)) s e k in
     record {
       only = λ u. e;
-      own = λ x o. reply-votes (r .window) (logged r d) (r .sc .id) (ownAnswer r d) (after-whole r d h) e;
-      promised = λ x n. e;
-      acked = λ x. put _ refl;
-      commits = λ x k q. put _ refl;
-      answered = λ x n. e;
+      own = λ x o. reply-votes (r .window) (logged r d) (r .sc .id) (ownAnswer r d) (after-whole r d h) base e;
+      promised = λ x _ n. e;
+      acked = λ x _. put _ refl;
+      commits = λ x _ k q. put _ refl;
+      answered = λ x _ n. e;
       passes = λ x i.
           sweep-keeps vote (λ k s. passedSlot s) (λ k s. passed-keeps vote (λ s n. refl) s) (passFrom (logged r d)) (passStop (logged r d)) (logged r d .window) i ∙ e i;
     }
 
 -- an offer's slot is null before it
-offered-null : (r : Replica) (b : Batch) → Whole (r .window) → Offers r b → noVote ≡ slotAt (grown (r .window) (r .window .len + 1)) (r .window .len) .vote
+pub offered-null : (r : Replica) (b : Batch) → Whole (r .window) → Offers r b → noVote ≡ slotAt (grown (r .window) (r .window .len + 1)) (r .window .len) .vote
 offered-null r b h f =
     ap vote (sym (at-past (r .window) (r .window .len) (le-refl (r .window .len))) ∙ sym (grown-at (r .window) (r .window .len + 1) (r .window .len) (omega (arith, f .room)))
     ∙ at-here (grown (r .window) (r .window .len + 1)) (r .window .len) (omega (arith, filled-has nullSlot (r .window) (r .window .len + 1))))
@@ -161,18 +164,18 @@ noAccept (callExecuted slot) = true
 noAccept (callOpenRead id count keys) = true
 noAccept (callReadReply peer id fromLeader reply) = true
 
-step-votes : (r : Replica) (room : ℕ) (c : Call) → Whole (r .window) → noAccept c ≡ true → of (votes (r .window)) (step r room c)
+step-votes : (r : Replica) (room : ℕ) (c : Call) → Whole (r .window) → strict (r .sc) ≡ false → noAccept c ≡ true → of (votes (r .window)) (step r room c)
 unfolding of decideOffer movedExec
-step-votes r room c h n = go c n
+step-votes r room c h base n = go c n
   where
     go : (c : Call) → noAccept c ≡ true → of (votes (r .window)) (step r room c)
     go (callAccept peer slot ballot b) n = absurd (clash n refl)
     go (callPrepare peer trigger ballot) n =
         prepareStep-ways (of (votes (r .window))) r room peer trigger ballot (λ a l i. refl)
-        (λ f i. sweep-keeps vote (λ i s. preparedSlot ballot (prepareBook (r .sc) (prepareWindow r trigger) (place (r .sc) trigger) peer) s) (λ k s. refl) (place (r .sc) trigger) (prepareEnd r trigger) (prepareWindow r trigger) i
+        (λ f i. sweep-keeps vote (λ i s. preparedSlot (strict (r .sc)) ballot (prepareBook (r .sc) (prepareWindow r trigger) (place (r .sc) trigger) peer) s) (λ k s. refl) (place (r .sc) trigger) (prepareEnd r trigger) (prepareWindow r trigger) i
         ∙ ap vote (grown-at (r .window) (place (r .sc) trigger + 1) i (omega (arith, f .low, f .high))))
     go (callPrepareReply peer m) n =
-        prepare-reply-way (votes (r .window)) r room peer m (λ a l u i. refl) (λ f. reply-votes (r .window) r peer (cleanReply m) h (λ i. refl))
+        prepare-reply-way (votes (r .window)) r room peer m (λ a l u i. refl) (λ f. reply-votes (r .window) r peer (cleanReply m) h base (λ i. refl))
     go (callAcceptReply peer slot ballot) n =
         acceptReplyStep-ways (of (votes (r .window))) r room peer slot ballot (λ a l i. refl)
         (λ f q. put-votes (r .window) (r .window) (place (r .sc) slot) _ (λ i. refl) refl) (λ f q. put-votes (r .window) (r .window) (place (r .sc) slot) _ (λ i. refl) refl)
@@ -184,10 +187,10 @@ step-votes r room c h n = go c n
         timeoutStep-ways (of (votes (r .window))) r room source (λ a l i. refl)
         (λ b f i. sweep-keeps vote (λ i s. redoneSlot b (newBook (leadTrigger r) (leadEnd r)) s) (λ k s. redone-vote b (leadTrigger r) (leadEnd r) s) (leadFrom r) (leadWindow r .len) (leadWindow r) i
         ∙ ap vote (grown-at (r .window) (firstOpen (r .window) + 1) i (omega (arith, f .room))))
-    go (callLogged d) n = logged-way (votes (r .window)) r d room (λ a l u i. refl) (λ f. log-votes r d h)
+    go (callLogged d) n = logged-way (votes (r .window)) r d room (λ a l u i. refl) (λ f. log-votes r d h base)
     go (callOffer b) n =
         offerStep-ways (of (votes (r .window))) r room b (λ a l i. refl)
-        (λ f. put-votes (r .window) (offerWindow r) (r .window .len) _ (λ i. ap vote (grown-at (r .window) (r .window .len + 1) i (omega (arith, f .room)))) (offered-null r b h f))
+        (λ f. put-votes (r .window) (offerWindow r) (r .window .len) _ (λ i. ap vote (grown-at (r .window) (r .window .len + 1) i (omega (arith, f .room)))) (ap (λ (k : Bool). pick {A = Vote} k (record { ballot = r .sc .«bal_prepared»; batch = clean b }) noVote) base ∙ offered-null r b h f))
     go (callExecuted slot) n =
         executedStep-ways (of (votes (r .window))) r room slot (λ a l i. refl)
         (λ f. put-votes (r .window) (r .window) (place (r .sc) slot) _ (λ i. refl) (executed-keeps vote (λ s n. refl) (slotAt (r .window) (place (r .sc) slot))))
@@ -208,12 +211,12 @@ says-some sc slot ballot b = pick-both (λ (x : Says). ltb 0 (length (saysActs x
 
 took-it : (r : Replica) (peer slot ballot s : ℕ) (b : Batch) → Whole (r .window) → r .sc .start ≤ s → Accepts r peer slot ballot b
     → took r slot s (record { ballot = ballot; batch = clean b }) 0 (core (followed (r .sc) peer ballot))
-    (putSlot (worked r slot) (place (r .sc) slot) (acceptedSlot peer ballot (clean b) (slotAt (worked r slot) (place (r .sc) slot))))
+    (putSlot (worked r slot) (place (r .sc) slot) (acceptedSlot (strict (r .sc)) peer ballot (clean b) (slotAt (worked r slot) (place (r .sc) slot))))
     (saysActs (acceptSays (r .sc) slot ballot b) (clean b .keys))
 took-it r peer slot ballot s b h l f = rw (says-some (r .sc) slot ballot b) (go (same? s slot))
   where
     go : (s ≡ slot) ⊎ (s ≡ slot → ⊥)
-        → atPlace (putSlot (worked r slot) (place (r .sc) slot) (acceptedSlot peer ballot (clean b) (slotAt (worked r slot) (place (r .sc) slot)))) (place (r .sc) s) .vote
+        → atPlace (putSlot (worked r slot) (place (r .sc) slot) (acceptedSlot (strict (r .sc)) peer ballot (clean b) (slotAt (worked r slot) (place (r .sc) slot)))) (place (r .sc) s) .vote
         ≡ lastOf (voteOf r s) (pick (eqb slot s && true) (record { ballot = ballot; batch = clean b } ∷ []) [])
     go (inl e) =
         rw (e, eq-eqb slot slot refl)
@@ -250,16 +253,16 @@ takes-ways r room s P one none (callExecuted slot) = none (callExecuted slot) re
 takes-ways r room s P one none (callOpenRead id count keys) = none (callOpenRead id count keys) refl
 takes-ways r room s P one none (callReadReply peer id fromLeader reply) = none (callReadReply peer id fromLeader reply) refl
 
-vote-call : (r : Replica) (room : ℕ) (k : Call) (s : ℕ) → Whole (r .window) → r .sc .start ≤ s
+vote-call : (r : Replica) (room : ℕ) (k : Call) (s : ℕ) → Whole (r .window) → strict (r .sc) ≡ false → r .sc .start ≤ s
     → atPlace (step r room k .replica .window) (place (r .sc) s) .vote ≡ lastOf (voteOf r s) (takes r (record { room = room; call = k }) s)
 unfolding of
-vote-call r room k s h l =
+vote-call r room k s h base l =
     takes-ways r room s (λ c v. atPlace (step r room c .replica .window) (place (r .sc) s) .vote ≡ lastOf (voteOf r s) v)
-    (λ peer slot ballot b. step-took r room peer slot ballot s b h l) (λ c n. step-votes r room c h n (place (r .sc) s)) k
+    (λ peer slot ballot b. step-took r room peer slot ballot s b h l) (λ c n. step-votes r room c h base n (place (r .sc) s)) k
 
 -- on any record whose window has 64 slots: a call changes a slot's vote only where it is an Accept for it that acts, and then to its own
-pub vote-step : (r : Replica) (c : Lent) (s : ℕ) → Whole (r .window) → r .sc .start ≤ s → voteOf (told r c .replica) s ≡ lastOf (voteOf r s) (takes r c s)
-vote-step r c s h l = ap (λ (x : ℕ). atPlace (told r c .replica .window) (s - x) .vote) (step-core r c .start) ∙ vote-call r (c .room) (c .call) s h l
+pub vote-step : (r : Replica) (c : Lent) (s : ℕ) → Whole (r .window) → strict (r .sc) ≡ false → r .sc .start ≤ s → voteOf (told r c .replica) s ≡ lastOf (voteOf r s) (takes r c s)
+vote-step r c s h base l = ap (λ (x : ℕ). atPlace (told r c .replica .window) (s - x) .vote) (step-core r c .start) ∙ vote-call r (c .room) (c .call) s h base l
 
 last-append : (v : Vote) (k l : List Vote) → lastOf v (k ++ l) ≡ lastOf (lastOf v k) l
 last-append v [] l = refl
@@ -268,12 +271,16 @@ last-append v (x ∷ k) l = last-append x k l
 later : (r : Replica) (c : Lent) (s : ℕ) → r .sc .start ≤ s → told r c .replica .sc .start ≤ s
 later r c s l = omega (arith, step-core r c .start)
 
+-- the kind stays
+pub still-base : (r : Replica) (c : Lent) → strict (r .sc) ≡ false → strict (told r c .replica .sc) ≡ false
+still-base r c base = kind-stays r (c .room) (c .call) ∙ base
+
 -- 2.2: over any history from any record with a window of 64 slots, a slot's vote is that of the last Accept taken for it
-pub vote-last : (r : Replica) (h : List Lent) (s : ℕ) → Whole (r .window) → r .sc .start ≤ s → voteOf (play r h) s ≡ lastOf (voteOf r s) (taken r h s)
-vote-last r [] s g l = refl
-vote-last r (c ∷ h) s g l =
-    vote-last (told r c .replica) h s (whole-step r c g) (later r c s l)
-    ∙ ap (λ (v : Vote). lastOf v (taken (told r c .replica) h s)) (vote-step r c s g l)
+pub vote-last : (r : Replica) (h : List Lent) (s : ℕ) → Whole (r .window) → strict (r .sc) ≡ false → r .sc .start ≤ s → voteOf (play r h) s ≡ lastOf (voteOf r s) (taken r h s)
+vote-last r [] s g base l = refl
+vote-last r (c ∷ h) s g base l =
+    vote-last (told r c .replica) h s (whole-step r c g) (still-base r c base) (later r c s l)
+    ∙ ap (λ (v : Vote). lastOf v (taken (told r c .replica) h s)) (vote-step r c s g base l)
     ∙ sym (last-append (voteOf r s) (takes r c s) (taken (told r c .replica) h s))
 
 -- ── the ballots of what is taken ──
@@ -335,19 +342,19 @@ all-with P Q R f [] p q = tt
 all-with P Q R f (x ∷ l) p q = (f x (p .0) (q .0), all-with P Q R f l (p .1) (q .1))
 
 -- 2.2: and its ballot is the largest of all that were taken for it
-pub vote-largest : (r : Replica) (h : List Lent) (s : ℕ) → Whole (r .window) → r .sc .start ≤ s
+pub vote-largest : (r : Replica) (h : List Lent) (s : ℕ) → Whole (r .window) → strict (r .sc) ≡ false → r .sc .start ≤ s
     → All (λ (v : Vote). v .ballot ≤ voteOf (play r h) s .ballot) (taken r h s)
-vote-largest r [] s g l = tt
-vote-largest r (c ∷ h) s g l =
+vote-largest r [] s g base l = tt
+vote-largest r (c ∷ h) s g base l =
     all-append (λ (v : Vote). v .ballot ≤ voteOf (play r (c ∷ h)) s .ballot) (takes r c s) (taken (told r c .replica) h s)
     (all-with (between r (told r c .replica)) (λ (v : Vote). voteOf (told r c .replica) s ≡ v) (λ (v : Vote). v .ballot ≤ voteOf (play r (c ∷ h)) s .ballot) first (takes r c s)
     (takes-largest r (c .room) (c .call) s)
-    (takes-held r (c .room) (c .call) s (voteOf (told r c .replica) s) (vote-step r c s g l)))
-    (vote-largest (told r c .replica) h s (whole-step r c g) (later r c s l))
+    (takes-held r (c .room) (c .call) s (voteOf (told r c .replica) s) (vote-step r c s g base l)))
+    (vote-largest (told r c .replica) h s (whole-step r c g) (still-base r c base) (later r c s l))
   where
     first : (v : Vote) → between r (told r c .replica) v → voteOf (told r c .replica) s ≡ v → v .ballot ≤ voteOf (play r (c ∷ h)) s .ballot
     first v b e =
-        subst (λ (x : Vote). v .ballot ≤ x .ballot) (sym (vote-last (told r c .replica) h s (whole-step r c g) (later r c s l)))
+        subst (λ (x : Vote). v .ballot ≤ x .ballot) (sym (vote-last (told r c .replica) h s (whole-step r c g) (still-base r c base) (later r c s l)))
         (last-of (λ (x : Vote). v .ballot ≤ x .ballot) (voteOf (told r c .replica) s) (taken (told r c .replica) h s)
         (subst (λ (x : Vote). v .ballot ≤ x .ballot) (sym e) (le-refl (v .ballot)))
         (all-map (λ (x : Vote). told r c .replica .sc .«bal_max_seen» ≤ x .ballot) (λ (x : Vote). v .ballot ≤ x .ballot) (λ x p. let z = b .1 in omega arith) (taken (told r c .replica) h s)

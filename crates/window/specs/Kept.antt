@@ -31,9 +31,9 @@ changed s commit slot before now =
 abbrev pub isPassed : Summary → ℕ → ℕ → Bool
 isPassed s slot now = eqb slot (s .first) && leb committed now
 
--- Prepare: the slots from the trigger on are Preparing, so that only those below it can be Accepting
-unfoldable pub preparedFrom : Summary → ℕ → ℕ → Summary
-preparedFrom s trigger below = record { first = lowered (s .first) trigger; accepting = below }
+-- Prepare: no slot from the trigger on is Accepting then, so that only those below it can be; a strict replica's committed slots stay committed
+unfoldable pub preparedFrom : Bool → Summary → ℕ → ℕ → Summary
+preparedFrom strict s trigger below = record { first = pick strict (s .first) (lowered (s .first) trigger); accepting = below }
 
 -- the slots of a range that have a status, where the range is one of places of the window
 unfoldable pub countedIn : Window → ℕ → ℕ → ℕ → ℕ

@@ -26,10 +26,10 @@ module _ (s : Summary) (slot now : ℕ) where
   pub passed-last : slot ≡ s .first → leb 3 now ≡ isPassed s slot now
   passed-last h = rw (eq-eqb slot (s .first) h)
 
-pub prepared-made : (s : Summary) (trigger below : ℕ) {first : ℕ} → first ≡ lowered (s .first) trigger
-    → record { first = first; accepting = below } ≡ preparedFrom s trigger below
+pub prepared-made : (strict : Bool) (s : Summary) (trigger below : ℕ) {low first : ℕ} → low ≡ lowered (s .first) trigger → first ≡ pick strict (s .first) low
+    → record { first = first; accepting = below } ≡ preparedFrom strict s trigger below
 unfolding preparedFrom
-prepared-made s trigger below e = rw e
+prepared-made strict s trigger below e f = rw (f, e)
 
 pub changed-made : (s : Summary) (commit slot before now : ℕ) {low first many accepting : ℕ} → low ≡ lowered (s .first) slot
     → first ≡ pick (ltb now 3) low (s .first) → many ≡ recounted (s .accepting) (eqb before 2) (eqb now 2)

@@ -4,8 +4,10 @@ pub mod Summary
 pub mod Kept
 pub mod Sweeps
 pub mod Bounded
+pub mod Counting
 pub mod Laws
 pub mod BoundedLaws
+pub mod CountingLaws
 pub mod RangeLaws
 pub mod Places
 pub mod ByPlace

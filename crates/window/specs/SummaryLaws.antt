@@ -1,6 +1,6 @@
 -- The summary, kept in a few comparisons, is the walk's: for a log that grows, for one slot that changes, and for each sweep.
 use mathlib.Core.Path.{_≡_, refl, sym, ap, subst, _∙_}
-use mathlib.Core.Bool.{Bool, true, false}
+use mathlib.Core.Bool.{Bool, true, false, _&&_}
 use mathlib.Core.List.{List, []}
 use mathlib.Core.Logic.{_⊎_, inl, inr, ⊎-elim}
 use Prim.Native.Nat.{ℕ, zero, suc, _+_, _-_, _≤_, _<_}
@@ -9,7 +9,7 @@ use native.Mathlib.Omega.{arith}
 use lib.Dec.{ltb, leb, eqb}
 use lib.ListN.{length, length-append, List·getD-eq-default}
 use borrow.Author.Tests.{le-leb, lt-leb, lt-ltb, le-ltb, eq-eqb, ne-eqb, ltb-true, ltb-false, leb-true, leb-false, eqb-true, eqb-false}
-use Rattle.base.specs.Pick.{pick, one, larger, larger-left, larger-right, larger-least, pick-both, pick-cases, and-left, and-make, clash, decide, same?, tests}
+use Rattle.base.specs.Pick.{pick, one, larger, larger-left, larger-right, larger-least, pick-both, pick-cases, and-left, and-right, and-make, clash, decide, same?, tests}
 use Rattle.base.specs.Gather.{gather}
 use Rattle.base.specs.Scan.{scan, scan-is, scan-high, scan-passed, scan-stopped}
 use Rattle.base.specs.Find.{last-past}
@@ -306,37 +306,53 @@ module _ (f : ℕ → Slot → Slot) (from to : ℕ) (w : Window) where
       go-open : (j : ℕ) → slotAt w j .status < 3 → slotAt swept j .status < 3
       go-open j h = sweep-each f from to w (λ (x : Slot). x .status < 3) j h (λ a b _. opens j a b h) (λ l. omega arith)
 
--- Prepare: the slots from the trigger on are Preparing or above the last that is used
-module _ (sc : Scalars) (w : Window) (s : Summary) (ballot : ℕ) (book : ReplicaBook) (from to : ℕ) where
+-- Prepare: from the trigger on no slot is Accepting; in the base kind none is committed either, in the strict kind the committed ones stay
+module _ (sc : Scalars) (w : Window) (s : Summary) (strict : Bool) (ballot : ℕ) (book : ReplicaBook) (from to : ℕ) where
   abbrev prepares : ℕ → Slot → Slot
-  prepares i x = preparedSlot ballot book x
+  prepares i x = preparedSlot strict ballot book x
 
   module _ (e : Sums sc w s) (h : from < to) (l : from < w .len) (high : (j : ℕ) → to ≤ j → j < w .len → slotAt w j .status < 2) where
     abbrev prepared : Window
     prepared = swept prepares from to w
 
-    low : (j : ℕ) → from ≤ j → j < w .len → slotAt prepared j .status < 2
-    low j a b =
+    unaccepted : (j : ℕ) → from ≤ j → j < w .len → slotAt prepared j .status ≡ 2 → ⊥
+    unaccepted j a b =
         ⊎-elim
-        (λ (t : ltb j to ≡ true). in-range prepares from to w (λ (n : ℕ). n < 2) j a (ltb-true _ _ t) (omega arith) (omega arith))
+        (λ (t : ltb j to ≡ true).
+        in-range prepares from to w (λ (n : ℕ). n ≡ 2 → ⊥) j a (ltb-true _ _ t)
+        (pick-cases (λ (n : ℕ). n ≡ 2 → ⊥) (strict && leb 3 (slotAt w j .status)) (λ u z. omega (arith, leb-true 3 (slotAt w j .status) (and-right strict (leb 3 (slotAt w j .status)) u))) (λ u z. omega arith))
+        (λ z. omega arith))
+        (λ (t : ltb j to ≡ false) z. omega (arith, out-high prepares from to w j (ltb-false _ _ t), high j (ltb-false _ _ t) b))
+        (decide (ltb j to))
+
+    opened : strict ≡ false → (j : ℕ) → from ≤ j → j < w .len → slotAt prepared j .status < 2
+    opened k j a b =
+        ⊎-elim
+        (λ (t : ltb j to ≡ true). in-range prepares from to w (λ (n : ℕ). n < 2) j a (ltb-true _ _ t) (rw k (omega arith)) (omega arith))
         (λ (t : ltb j to ≡ false). omega (arith, out-high prepares from to w j (ltb-false _ _ t), high j (ltb-false _ _ t) b))
         (decide (ltb j to))
 
-    first-lowered : lowered (s .first) (sc .start + from) ≡ sc .start + firstOpen prepared
-    first-lowered =
+    first-lowered : strict ≡ false → lowered (s .first) (sc .start + from) ≡ sc .start + firstOpen prepared
+    first-lowered k =
         pick-cases (λ (n : ℕ). n ≡ sc .start + firstOpen prepared) (ltb (sc .start + from) (s .first))
         (λ t.
         ap (λ (n : ℕ). sc .start + n)
-        (sym (first-is prepared from (omega arith) (λ j u. omega (arith, out-low prepares from to w j u, first-closed w j (omega (arith, tests, e .first)))) (λ u. omega (arith, low from (le-refl from) l)))))
+        (sym (first-is prepared from (omega arith) (λ j u. omega (arith, out-low prepares from to w j u, first-closed w j (omega (arith, tests, e .first)))) (λ u. omega (arith, opened k from (le-refl from) l)))))
         (λ t.
         e .first
         ∙ ap (λ (n : ℕ). sc .start + n)
         (sym (first-is prepared (firstOpen w) (first-within w) (λ j u. omega (arith, out-low prepares from to w j (omega (arith, tests, e .first)), first-closed w j u))
         (λ u.
         ⊎-elim
-        (λ (q : firstOpen w ≡ from). omega (arith, low (firstOpen w) (omega arith) u))
+        (λ (q : firstOpen w ≡ from). omega (arith, opened k (firstOpen w) (omega arith) u))
         (λ (q : firstOpen w < from). omega (arith, out-low prepares from to w (firstOpen w) q, first-open w u))
         (eq-or-lt-of-le (omega (arith, tests, e .first)))))))
+
+    first-kept : strict ≡ true → s .first ≡ sc .start + firstOpen prepared
+    first-kept k =
+        e .first
+        ∙ ap (λ (n : ℕ). sc .start + n)
+        (sym (first-same prepares from to w (λ j a b u. rw (k, le-leb 3 (slotAt w j .status) u) u) (λ j a b u. rw (k, lt-leb 3 (slotAt w j .status) u) (omega arith))))
 
     count-below-trigger : (cb : ℕ) → howMany (hasStatus w 2) cb from ≡ howMany (hasStatus prepared 2) cb (w .len)
     count-below-trigger cb =
@@ -346,16 +362,20 @@ module _ (sc : Scalars) (w : Window) (s : Summary) (ballot : ℕ) (book : Replic
         let b : howMany (hasStatus prepared 2) cb from ≡ howMany (hasStatus w 2) cb from =
         howMany-same (hasStatus prepared 2) (hasStatus w 2) cb from (λ i x y. ap (λ (n : ℕ). eqb n 2) (out-low prepares from to w i y)) in
         let d : howMany (hasStatus prepared 2) from (w .len) ≡ 0 =
-        howMany-nowhere (hasStatus prepared 2) from (w .len) (λ i x y. ne-eqb (slotAt prepared i .status) 2 (λ z. omega (arith, low i x y))) in
+        howMany-nowhere (hasStatus prepared 2) from (w .len) (λ i x y. ne-eqb (slotAt prepared i .status) 2 (unaccepted i x y)) in
         omega arith)
         (λ (t : leb cb from ≡ false).
         howMany-none (hasStatus w 2) cb from (omega (arith, tests))
-        ∙ sym (howMany-nowhere (hasStatus prepared 2) cb (w .len) (λ i x y. ne-eqb (slotAt prepared i .status) 2 (λ z. omega (arith, tests, low i (omega (arith, tests)) y)))))
+        ∙ sym (howMany-nowhere (hasStatus prepared 2) cb (w .len) (λ i x y. ne-eqb (slotAt prepared i .status) 2 (unaccepted i (omega (arith, tests)) y))))
         (decide (leb cb from))
 
-    pub sums-prepared : {below : ℕ} → below ≡ howMany (hasStatus w 2) (sc .«commit_bar» - sc .start) from → Sums sc prepared (preparedFrom s (sc .start + from) below)
+    pub sums-prepared : {below : ℕ} → below ≡ howMany (hasStatus w 2) (sc .«commit_bar» - sc .start) from → Sums sc prepared (preparedFrom strict s (sc .start + from) below)
     unfolding preparedFrom
-    sums-prepared q = record { first = first-lowered; accepting = q ∙ count-below-trigger (sc .«commit_bar» - sc .start) }
+    sums-prepared q =
+        record {
+          first = pick-cases (λ (n : ℕ). n ≡ sc .start + firstOpen prepared) strict first-kept first-lowered;
+          accepting = q ∙ count-below-trigger (sc .«commit_bar» - sc .start);
+        }
 
 -- past the last slot that is used every slot is null
 pub unused-null : (w : Window) (j : ℕ) → lastUsed w < j → j < w .len → slotAt w j .status < 2
@@ -447,14 +467,14 @@ module _ (sc : Scalars) (w : Window) (s : Summary) (start stop : ℕ) where
         omega (arith, e .accepting, marked-many (sc .«commit_bar» - sc .start) stop may, howMany-split (hasStatus w 2) (sc .«commit_bar» - sc .start) stop (w .len) low high)
 
 -- quorum: each Preparing slot of the range is Accepting then
-module _ (sc : Scalars) (w : Window) (s : Summary) (from to : ℕ) where
+module _ (strict : Bool) (ballot : ℕ) (sc : Scalars) (w : Window) (s : Summary) (from to : ℕ) where
   abbrev enters : ℕ → Slot → Slot
-  enters i x = enteredSlot x
+  enters i x = enteredSlot strict ballot x
 
   abbrev entered : Window
   entered = sweep enters from to w
 
-  entered-one : (x : Slot) → one (eqb (enteredSlot x .status) 2) ≡ one (eqb (x .status) 2) + one (eqb (x .status) 1)
+  entered-one : (x : Slot) → one (eqb (enteredSlot strict ballot x .status) 2) ≡ one (eqb (x .status) 2) + one (eqb (x .status) 1)
   entered-one x =
       pick-cases (λ (y : Slot). one (eqb (y .status) 2) ≡ one (eqb (x .status) 2) + one (eqb (x .status) 1)) (eqb (x .status) 1)
       (λ t. rw (t, ne-eqb (x .status) 2 (λ z. omega (arith, tests)))) (λ t. rw t (omega arith))
@@ -507,7 +527,7 @@ module _ (sc : Scalars) (w : Window) (s : Summary) (from to : ℕ) where
       → n ≡ howMany (hasStatus w 1) (larger from (sc .«commit_bar» - sc .start)) to → Sums sc entered (record { first = first; accepting = s .accepting + n })
   sums-entered q e c l g =
       let f : firstOpen entered ≡ firstOpen w =
-      first-same enters from to w (λ j a b h. entered-closed (slotAt w j) h) (λ j a b h. entered-open (slotAt w j) h) in
+      first-same enters from to w (λ j a b h. entered-closed (slotAt w j) strict ballot h) (λ j a b h. entered-open (slotAt w j) strict ballot h) in
       record { first = omega (arith, e .first); accepting = omega (arith, e .accepting, count-entered (sc .«commit_bar» - sc .start) c l) }
 
 -- commit_bar passes slots that are committed: none of them is Accepting, so that the count stays

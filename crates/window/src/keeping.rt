@@ -78,11 +78,12 @@ impl Summary {
         3 <= now
     }
 
-    // Prepare: the slots from the trigger on are Preparing; `below` are Accepting between commit_bar and the trigger.
-    pub fn prepared_from(self, trigger: u64, below: u64) -> Summary
-        ensures { λ r. ⌜ r ≡ preparedFrom self trigger below ⌝ }
+    // Prepare: no slot from the trigger on is Accepting then; `below` are, between commit_bar and the trigger.
+    pub fn prepared_from(self, strict: bool, trigger: u64, below: u64) -> Summary
+        ensures { λ r. ⌜ r ≡ preparedFrom strict self trigger below ⌝ }
     {
-        let first = either(trigger < self.first, trigger, self.first);
+        let low = either(trigger < self.first, trigger, self.first);
+        let first = either(strict, self.first, low);
         Summary {
             first: first,
             accepting: below,

@@ -1,4 +1,5 @@
 // The log's slots: their searches and growth, and the sweeps that change each slot of a range and write its actions.
+mod counting;
 mod keeping;
 mod searches;
 mod sweeps;

@@ -60,15 +60,16 @@ fn prepare_one(
     room: &mut [u64],
     n: usize,
     slot: u64,
+    strict: bool,
     ballot: u64,
     book: ReplicaBook,
 ) -> Turned
     requires { ⌜ TwoFit n (now room) ⌝ }
-    ensures { λ r. ⌜ Turns (preparedSlot ballot book s) (promise slot ballot ∷ []) n (now (room .entry)) r (now (room .exit)) ⌝ }
+    ensures { λ r. ⌜ Turns (preparedSlot strict ballot book s) (promise slot ballot ∷ []) n (now (room .entry)) r (now (room .exit)) ⌝ }
 {
     put_promise(room, n, slot, ballot);
     let next = n + 1;
-    let t = s.prepared(ballot, book);
+    let t = s.prepared(strict, ballot, book);
     Turned {
         next: next,
         slot: t,
@@ -93,11 +94,11 @@ fn redo_one(s: Slot, room: &mut [u64], n: usize, slot: u64, ballot: u64, book: L
 }
 
 // Quorum: a Preparing slot enters Accept, with its entry and its message.
-fn enter_one(s: Slot, room: &mut [u64], n: usize, slot: u64, ballot: u64) -> Turned
+fn enter_one(s: Slot, room: &mut [u64], n: usize, slot: u64, strict: bool, ballot: u64) -> Turned
     requires { ⌜ TwoFit n (now room) ⌝ }
-    ensures { λ r. ⌜ Turns (enteredSlot s) (enterActs slot ballot s) n (now (room .entry)) r (now (room .exit)) ⌝ }
+    ensures { λ r. ⌜ Turns (enteredSlot strict ballot s) (enterActs slot ballot s) n (now (room .entry)) r (now (room .exit)) ⌝ }
 {
-    let t = s.entered();
+    let t = s.entered(strict, ballot);
     if s.status != 1 {
         return Turned { next: n, slot: t };
     }
@@ -202,10 +203,11 @@ impl Window {
         from: usize,
         to: usize,
         start: u64,
+        strict: bool,
         ballot: u64,
         book: ReplicaBook,
     ) -> Placed
-        ensures { λ r. ⌜ SweptIn (λ i s. preparedSlot ballot book s) (λ i s. promise (start + i) ballot ∷ []) from to k start self (now (room .entry)) r (now (room .exit)) ⌝ }
+        ensures { λ r. ⌜ SweptIn (λ i s. preparedSlot strict ballot book s) (λ i s. promise (start + i) ballot ∷ []) from to k start self (now (room .entry)) r (now (room .exit)) ⌝ }
     {
         if !in_range(from, to, k, room.len(), start) {
             return Placed {
@@ -217,7 +219,7 @@ impl Window {
         for i in from..to {
             let s = self.slots[i];
             let slot = start + i as u64;
-            let p = prepare_one(s, room, n, slot, ballot, book);
+            let p = prepare_one(s, room, n, slot, strict, ballot, book);
             let t = p.slot;
             self.slots[i] = t;
             n = p.next;
@@ -268,9 +270,10 @@ impl Window {
         from: usize,
         to: usize,
         start: u64,
+        strict: bool,
         ballot: u64,
     ) -> Placed
-        ensures { λ r. ⌜ SweptIn (λ i s. enteredSlot s) (λ i s. enterActs (start + i) ballot s) from to k start self (now (room .entry)) r (now (room .exit)) ⌝ }
+        ensures { λ r. ⌜ SweptIn (λ i s. enteredSlot strict ballot s) (λ i s. enterActs (start + i) ballot s) from to k start self (now (room .entry)) r (now (room .exit)) ⌝ }
     {
         if !in_range(from, to, k, room.len(), start) {
             return Placed {
@@ -282,7 +285,7 @@ impl Window {
         for i in from..to {
             let s = self.slots[i];
             let slot = start + i as u64;
-            let p = enter_one(s, room, n, slot, ballot);
+            let p = enter_one(s, room, n, slot, strict, ballot);
             let t = p.slot;
             self.slots[i] = t;
             n = p.next;

@@ -1,13 +1,14 @@
 //! Traces made by hand.
 
 use super::refusals::refusals;
+use super::strict_edges::strict_edges;
 use crate::batch::{Batch, Keys};
 use crate::call::{Call, Entry, Known, KnownList};
 
 /// A name, and the calls.
 type Example = (&'static str, fn() -> Vec<Call>);
 
-const EXAMPLES: [Example; 7] = [
+const EXAMPLES: [Example; 8] = [
     ("worked", worked),
     ("keys", full_key_table),
     ("refusals", refused_and_done),
@@ -15,6 +16,7 @@ const EXAMPLES: [Example; 7] = [
     ("late-1", late_at_1),
     ("late-2", late_at_2),
     ("first-value", first_values),
+    ("strict-edges", edges_of_the_strict_rules),
 ];
 
 pub fn example(name: &str) -> Option<Vec<u8>> {
@@ -66,6 +68,11 @@ fn full_key_table() -> Vec<Call> {
 /// Both sides of 01's refusals, and which comes first where several are due.
 fn refused_and_done() -> Vec<Call> {
     refusals().into_iter().map(|(call, _)| call).collect()
+}
+
+/// Both sides of each edge of 02's strict rules.
+fn edges_of_the_strict_rules() -> Vec<Call> {
+    strict_edges().into_iter().map(|(call, _)| call).collect()
 }
 
 /// What demand 3 does not promise, as the three members of one group see it: a deposed leader's

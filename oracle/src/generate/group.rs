@@ -1,6 +1,8 @@
 //! A whole group that runs the source: members, their logs and a network that loses, repeats and
 //! overtakes. What the watched member receives is the trace.
 
+use std::collections::BTreeMap;
+
 use super::habits::Habits;
 use super::reads;
 use super::rng::Rng;
@@ -8,10 +10,10 @@ use super::{spoil, wild};
 use crate::action::{ALL, Action, Kind};
 use crate::batch::{Batch, Keys};
 use crate::call::{Call, Entry};
-use crate::host::Replica;
 use crate::host::multipaxos::WINDOW;
 use crate::record::RECORD_BYTES;
 use crate::session::{Outcome, Session};
+use crate::shown::Shown;
 
 pub struct World<'r> {
     pub(super) rng: &'r mut Rng,
@@ -24,6 +26,8 @@ pub struct World<'r> {
     records: Vec<[u8; RECORD_BYTES]>,
     batches_made: u64,
     keys_made: u64,
+    /// Each slot's batch, once some member of a strict group has marked it.
+    marked: BTreeMap<u64, Batch>,
 }
 
 /// A replica with what its host still has to report.
@@ -48,13 +52,13 @@ type Event<'r> = (u64, fn(&mut World<'r>));
 const MOST_MAIL: usize = 600;
 
 impl Member {
-    pub(super) fn replica(&self) -> &Replica {
+    pub(super) fn replica(&self) -> Shown<'_> {
         self.session.replica().expect("every member was made")
     }
 
     fn leads_prepared(&self) -> bool {
         let replica = self.replica();
-        replica.is_leader() && replica.bal_prepared > 0
+        replica.leads() && replica.bal_prepared() > 0
     }
 }
 
@@ -71,6 +75,7 @@ impl<'r> World<'r> {
             records: Vec::new(),
             batches_made: 0,
             keys_made: 0,
+            marked: BTreeMap::new(),
         }
     }
 
@@ -78,9 +83,9 @@ impl<'r> World<'r> {
     pub fn run(mut self, limit: u64) -> Vec<[u8; RECORD_BYTES]> {
         let wanted = self.habits.records.min(limit) as usize;
         for id in 0..self.habits.group {
-            // Only the watched member is ever forbidden to lead.
+            // Only the watched member is ever forbidden to lead; a group is of one kind.
             let watched = id == self.habits.watched;
-            let options = if watched { self.habits.options } else { self.habits.options & 1 };
+            let options = if watched { self.habits.options } else { self.habits.options & 5 };
             let (group, start) = (self.habits.group, self.habits.start);
             self.deliver_unspoiled(id, Call::New { id, group, start, options });
         }
@@ -93,7 +98,7 @@ impl<'r> World<'r> {
 
     /// The window is full, and nothing is under way.
     fn is_spent(&self) -> bool {
-        self.watched_replica().insts.len() == WINDOW
+        self.watched_replica().slots() == WINDOW
             && self.mail.is_empty()
             && self.members.iter().all(|member| member.log.is_empty())
     }
@@ -105,8 +110,10 @@ impl<'r> World<'r> {
         let habits = &self.habits;
         let mail = if self.mail.is_empty() { 0 } else { 300 + self.mail.len() as u64 };
         let log = if logs == 0 { 0 } else { habits.log_pace + logs as u64 };
-        // A group without a leader and with little under way waits for a timer.
-        let lonely = if leader || self.mail.len() > 4 { 0 } else { 15 };
+        // A group without a leader and with little under way waits for a timer. A strict leader
+        // needs every reply, so there the logs count as well.
+        let busy = self.mail.len() > 4 || (habits.is_strict() && logs > 4);
+        let lonely = if leader || busy { 0 } else { 15 };
         let events: [Event<'r>; 9] = [
             (mail, Self::deliver_mail),
             (log, Self::finish_log),
@@ -129,7 +136,7 @@ impl<'r> World<'r> {
         self.deliver(watched, call);
     }
 
-    pub(super) fn watched_replica(&self) -> &Replica {
+    pub(super) fn watched_replica(&self) -> Shown<'_> {
         self.members[usize::from(self.habits.watched)].replica()
     }
 
@@ -164,6 +171,9 @@ impl<'r> World<'r> {
 
     /// What a member asks of its host: log entries, messages, executions.
     fn route(&mut self, from: u8, outcome: &Outcome) {
+        if self.habits.is_strict() && self.habits.is_honest() {
+            self.hold_marks(from, outcome);
+        }
         for action in &outcome.actions {
             let member = &mut self.members[usize::from(from)];
             let Action { slot, ballot, .. } = *action;
@@ -177,6 +187,19 @@ impl<'r> World<'r> {
         }
         let excess = self.mail.len().saturating_sub(MOST_MAIL);
         self.mail.drain(..excess);
+    }
+
+    /// 02, Wish 7, of a strict group in which nothing is made up: no two members mark one slot with
+    /// different batches, and 15 is never given.
+    fn hold_marks(&mut self, from: u8, outcome: &Outcome) {
+        assert_ne!(outcome.answer, 15, "an honest strict group meets 15");
+        let member = &self.members[usize::from(from)];
+        for mark in outcome.actions.iter().filter(|action| action.kind == Kind::CommitSlot) {
+            let replica = member.replica().model().expect("a strict group is the model's");
+            let batch = replica.slot(mark.slot).expect("a marked slot is present").batch;
+            let first = self.marked.entry(mark.slot).or_insert(batch);
+            assert_eq!(*first, batch, "a strict group marks slot {} twice", mark.slot);
+        }
     }
 
     fn post(&mut self, from: u8, action: &Action) {
@@ -219,7 +242,7 @@ impl<'r> World<'r> {
         if missing {
             return;
         }
-        let size = (member.replica().wal_offset as u64).saturating_add(growth);
+        let size = member.replica().wal_offset().saturating_add(growth);
         self.deliver(of, Call::LogDone { entry, slot, ballot, size });
     }
 
@@ -238,10 +261,10 @@ impl<'r> World<'r> {
         let any = self.rng.below(self.habits.group.into()) as u8;
         let of = if self.rng.often(300) { self.habits.watched } else { any };
         let replica = self.members[usize::from(of)].replica();
-        if replica.is_leader() && self.habits.group > 1 && !self.rng.often(150) {
+        if replica.leads() && self.habits.group > 1 && !self.rng.often(150) {
             return;
         }
-        let leader = replica.leader.unwrap_or(of);
+        let leader = replica.leader().unwrap_or(of);
         let source = if self.rng.often(100) { any } else { leader };
         self.deliver(of, Call::Timeout { source });
     }
@@ -255,7 +278,7 @@ impl<'r> World<'r> {
         let leaders = self.those(Member::leads_prepared);
         let stray = leaders.is_empty() || self.rng.often(20);
         let of = if stray { self.habits.watched } else { self.rng.pick(&leaders) };
-        let full = self.members[usize::from(of)].replica().insts.len() == WINDOW;
+        let full = self.members[usize::from(of)].replica().slots() == WINDOW;
         if full && !self.rng.often(30) {
             return self.time_out_if_rare();
         }
@@ -274,7 +297,7 @@ impl<'r> World<'r> {
         let leaders = self.those(Member::leads_prepared);
         let from = self.rng.pick(&leaders);
         let replica = self.members[usize::from(from)].replica();
-        let (ballot, bar) = (replica.bal_prepared, replica.commit_bar as u64);
+        let (ballot, bar) = (replica.bal_prepared(), replica.commit_bar());
         for to in (0..self.habits.group).filter(|&to| to != from) {
             let call = Call::CommitNotice { peer: from, ballot, bar };
             self.mail.push(Mail { from, to, call });

@@ -2,6 +2,7 @@
 
 use super::Profile;
 use super::rng::Rng;
+use crate::refuse;
 
 /// Rates are in a thousand.
 pub struct Habits {
@@ -41,7 +42,9 @@ pub struct Habits {
 const STARTS: [u64; 8] = [0, 0, 0, 1, 7, 1000, (1 << 32) - 1, 1 << 32];
 
 impl Habits {
-    pub fn draw(rng: &mut Rng, profile: Profile) -> Self {
+    /// In `mix` one strict group in ten is a base group, so that a trace has replicas of both kinds.
+    pub fn draw(rng: &mut Rng, profile: Profile, strict: bool) -> Self {
+        let strict = strict && !(profile == Profile::Mix && rng.often(100));
         let profile = match profile {
             Profile::Mix => rng.pick(&[Profile::Group, Profile::Fuzz, Profile::Reads]),
             single => single,
@@ -53,7 +56,39 @@ impl Habits {
             Profile::Writes => habits.only_write(),
             Profile::Group | Profile::Mix => {}
         }
+        if strict {
+            habits.contend(rng);
+        }
         habits
+    }
+
+    pub fn is_strict(&self) -> bool {
+        refuse::is_strict(self.options)
+    }
+
+    /// No record is spoiled, and no call comes from nowhere.
+    pub fn is_honest(&self) -> bool {
+        self.spoiled == 0 && self.wild == 0
+    }
+
+    /// A strict group: members step up against each other, with logs of several lengths, and replies
+    /// and completions that come late. In a storm nobody is prepared for long.
+    fn contend(&mut self, rng: &mut Rng) {
+        let storm = rng.often(200);
+        self.options |= 4;
+        self.timeouts = if storm { rng.pick(&[6, 20]) } else { rng.pick(&[0, 1, 2]) };
+        self.offers = rng.pick(&[30, 100, 200]);
+        self.log_pace = rng.pick(&[250, 250, 60]);
+        self.log_missing = rng.pick(&[0, 0, 10]);
+        self.log_overtake = rng.pick(&[0, 100, 500]);
+        self.log_repeat = rng.pick(&[0, 30, 150]);
+        self.repeat = rng.pick(&[0, 40, 200]);
+        self.loss = rng.pick(&[0, 0, 10, 40]);
+        self.prepare_loss = rng.pick(&[0, 0, 0, 300]);
+        self.cuts = rng.pick(&[0, 4, 10]);
+        self.executions = rng.pick(&[20, 100, 300]);
+        self.notices = rng.pick(&[5, 40]);
+        self.wild = self.wild.min(1500);
     }
 
     fn of_a_group(rng: &mut Rng) -> Self {

@@ -7,6 +7,8 @@ mod reads;
 mod refusals;
 mod rng;
 mod spoil;
+mod strict_edges;
+mod strict_wild;
 mod wild;
 
 use std::io;
@@ -16,6 +18,7 @@ use group::World;
 use habits::Habits;
 pub use refusals::refusals;
 pub(crate) use rng::Rng;
+pub use strict_edges::strict_edges;
 
 #[derive(Debug, Clone, Copy, PartialEq, Eq)]
 pub enum Profile {
@@ -46,14 +49,25 @@ impl Profile {
     }
 }
 
-/// Writes `count` records: what one member of each of many groups received.
+/// Writes `count` records of base replicas: what one member of each of many groups received.
 pub fn generate(
     seed: u64,
     count: u64,
     profile: Profile,
+    write: impl FnMut(&[u8]) -> io::Result<()>,
+) -> io::Result<()> {
+    generate_kind(seed, count, profile, false, write)
+}
+
+/// The same, of groups of either kind.
+pub fn generate_kind(
+    seed: u64,
+    count: u64,
+    profile: Profile,
+    strict: bool,
     mut write: impl FnMut(&[u8]) -> io::Result<()>,
 ) -> io::Result<()> {
-    let mut rng = Rng::new(seed ^ (profile as u64) << 60);
+    let mut rng = Rng::new(seed ^ (profile as u64) << 60 ^ u64::from(strict) << 59);
     let short = profile.is_damaged() && rng.often(500);
     let mut written = 0;
     while profile.is_damaged() && written < count.min(4) {
@@ -61,7 +75,7 @@ pub fn generate(
         written += 1;
     }
     while written < count {
-        let habits = Habits::draw(&mut rng, profile);
+        let habits = Habits::draw(&mut rng, profile, strict);
         for record in World::new(&mut rng, habits).run(count - written) {
             written += 1;
             let whole = written < count || !short;

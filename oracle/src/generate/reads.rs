@@ -3,13 +3,10 @@
 use super::group::{Mail, World};
 use crate::batch::Keys;
 use crate::call::{Call, Known, KnownList};
-use crate::host::Replica;
-use crate::host::multipaxos::Status;
-use crate::server::ApiRequest;
 
 /// Opens a read and lets members answer it, or answers an open one again.
 pub(super) fn event(world: &mut World) {
-    let open = open_reads(world.watched_replica());
+    let open = world.watched_replica().reads();
     let enough = open.len() >= 14 && world.rng.often(700);
     if open.is_empty() || (world.rng.often(400) && !enough) {
         open_one(world);
@@ -17,14 +14,6 @@ pub(super) fn event(world: &mut World) {
         let (read, length) = world.rng.pick(&open);
         answer_from_somebody(world, read, length);
     }
-}
-
-/// Id and number of keys of each open read, by id.
-fn open_reads(replica: &Replica) -> Vec<(u64, usize)> {
-    let mut open: Vec<(u64, usize)> =
-        replica.quorum_reads.iter().map(|(name, read)| (name.0, read.reads.len())).collect();
-    open.sort_unstable();
-    open
 }
 
 fn open_one(world: &mut World) {
@@ -52,23 +41,11 @@ fn post_honest_answers(world: &mut World, read: u64, keys: &[u64]) {
             continue;
         }
         let replica = world.members[usize::from(peer)].replica();
-        let known: Vec<Known> = keys.iter().map(|key| knowledge(replica, *key)).collect();
-        let from_leader = replica.is_leader() && replica.bal_prepared > 0 && world.rng.often(300);
+        let known: Vec<Known> = keys.iter().map(|key| replica.knowledge(*key)).collect();
+        let from_leader = replica.leads() && replica.bal_prepared() > 0 && world.rng.often(300);
         let known = KnownList::from_slice(&known);
         let call = Call::ReadReply { peer, read, known, from_leader };
         world.mail.push(Mail { from: peer, to: watched, call });
-    }
-}
-
-/// The highest slot of the key, with its batch's id for a value once it is committed.
-fn knowledge(replica: &Replica, key: u64) -> Known {
-    let Some(&slot) = replica.highest_slot.get(&key.to_string()) else { return Known::Nothing };
-    let instance = &replica.insts[slot - replica.start_slot];
-    match instance.reqs.first() {
-        Some((_, ApiRequest::Req { id, .. })) if instance.status >= Status::Committed => {
-            Known::Value(slot as u64, *id)
-        }
-        _ => Known::Slot(slot as u64),
     }
 }
 

@@ -17,7 +17,7 @@ pub fn refusals() -> Vec<Answered> {
 fn no_replica() -> Vec<Answered> {
     vec![
         (new(0, 2, 0, 0), 10),
-        (new(0, 3, 0, 4), 10),
+        (new(0, 3, 0, 8), 10),
         (accept(9, 0, 256, no_batch()), 1),
         (Call::Offer { batch: no_batch() }, 1),
         (open(0, &[]), 1),
@@ -25,18 +25,19 @@ fn no_replica() -> Vec<Answered> {
 }
 
 /// 10: a group that is not 1, 3, 5, 7 or 9, an id that is no member's, a start above 2^32, options
-/// above 3. The old replica stays.
+/// above 7. The old replica stays. 4 to 7 make a strict one.
 fn new_replicas() -> Vec<Answered> {
     let mut calls = vec![(new(1, 3, 5, 0), 0)];
     for group in [0, 2, 4, 6, 8, 10, 11, 12, 255] {
         calls.push((new(0, group, 0, 0), 10));
     }
-    for options in [4, 5, 7, 8, 256, 1 << 32, u64::MAX] {
+    for options in [8, 9, 15, 16, 256, 1 << 32, u64::MAX] {
         calls.push((new(0, 3, 0, options), 10));
     }
     calls.push((new(0, 3, (1 << 32) + 1, 0), 10));
     calls.push((Call::Timeout { source: 1 }, 0));
-    for (group, options) in [(1, 0), (3, 1), (5, 2), (7, 3), (9, 3)] {
+    let strict = [(1, 4), (3, 5), (5, 6), (7, 7), (9, 7)];
+    for (group, options) in [(1, 0), (3, 1), (5, 2), (7, 3), (9, 3)].into_iter().chain(strict) {
         calls.push((new(group, group, 0, options), 10));
         calls.push((new(group - 1, group, 1 << 32, options), 0));
     }

@@ -2,10 +2,10 @@
 //! subs and tags.
 
 use super::rng::Rng;
-use crate::host::Replica;
 use crate::record::{RECORD_BYTES, Record};
+use crate::shown::Shown;
 
-pub(super) fn spoiled(rng: &mut Rng, record: Record, replica: &Replica) -> [u8; RECORD_BYTES] {
+pub(super) fn spoiled(rng: &mut Rng, record: Record, replica: Shown) -> [u8; RECORD_BYTES] {
     let mut record = record;
     for _ in 0..rng.pick(&[1, 1, 1, 2, 3]) {
         spoil_field(rng, &mut record, replica);
@@ -18,7 +18,7 @@ pub(super) fn spoiled(rng: &mut Rng, record: Record, replica: &Replica) -> [u8; 
     bytes
 }
 
-fn spoil_field(rng: &mut Rng, record: &mut Record, replica: &Replica) {
+fn spoil_field(rng: &mut Rng, record: &mut Record, replica: Shown) {
     match rng.below(16) {
         0 => record.kind = rng.pick(&[0, 1, 2, 3, 4, 5, 6, 7, 8, 9, 10, 11, 12, 255]),
         1 | 2 => record.peer = edge_member(rng, replica),
@@ -36,16 +36,16 @@ fn spoil_field(rng: &mut Rng, record: &mut Record, replica: &Replica) {
     }
 }
 
-pub(super) fn edge_member(rng: &mut Rng, replica: &Replica) -> u8 {
-    let inside = rng.below(replica.population.into()) as u8;
-    let group = replica.population;
-    rng.pick(&[replica.id, inside, inside, group, group.wrapping_sub(1), 9, 10, 254, 255])
+pub(super) fn edge_member(rng: &mut Rng, replica: Shown) -> u8 {
+    let inside = rng.below(replica.group().into()) as u8;
+    let group = replica.group();
+    rng.pick(&[replica.id(), inside, inside, group, group.wrapping_sub(1), 9, 10, 254, 255])
 }
 
 /// Around start, log end, window end and the bars, and where numbers end.
-pub(super) fn edge_slot(rng: &mut Rng, replica: &Replica) -> u64 {
-    let start = replica.start_slot as u64;
-    let end = replica.log_end() as u64;
+pub(super) fn edge_slot(rng: &mut Rng, replica: Shown) -> u64 {
+    let start = replica.start();
+    let end = replica.log_end();
     let inside = start + rng.below(end - start + 1);
     rng.pick(&[
         0,
@@ -62,9 +62,9 @@ pub(super) fn edge_slot(rng: &mut Rng, replica: &Replica) -> u64 {
         start + 63,
         start + 64,
         start + 65,
-        replica.accept_bar as u64,
-        replica.commit_bar as u64,
-        replica.exec_bar as u64,
+        replica.accept_bar(),
+        replica.commit_bar(),
+        replica.exec_bar(),
         1 << 32,
         (1 << 32) + 64,
         (1 << 62) + inside,
@@ -75,8 +75,8 @@ pub(super) fn edge_slot(rng: &mut Rng, replica: &Replica) -> u64 {
 }
 
 /// A told bar or a log size.
-fn edge_bar(rng: &mut Rng, replica: &Replica) -> u64 {
-    let size = replica.wal_offset as u64;
+fn edge_bar(rng: &mut Rng, replica: Shown) -> u64 {
+    let size = replica.wal_offset();
     if rng.often(400) {
         // The largest size leaves no later one, so it is rare.
         let last = if rng.often(50) { u64::MAX } else { size };
@@ -87,9 +87,9 @@ fn edge_bar(rng: &mut Rng, replica: &Replica) -> u64 {
 }
 
 /// Around the ballots of the replica, with and without the right owner.
-fn edge_ballot(rng: &mut Rng, replica: &Replica, peer: u8) -> u64 {
+fn edge_ballot(rng: &mut Rng, replica: Shown, peer: u8) -> u64 {
     let owner = u64::from(peer) + 1;
-    let round = replica.bal_max_seen / 256;
+    let round = replica.bal_max_seen() / 256;
     // The last round ends an episode's elections, so it is rare.
     let last_round = rng.often(100);
     let last = (u64::MAX - 255).wrapping_add(owner);
@@ -99,11 +99,11 @@ fn edge_ballot(rng: &mut Rng, replica: &Replica, peer: u8) -> u64 {
         owner,
         256,
         256 + owner,
-        replica.bal_max_seen,
-        replica.bal_max_seen.wrapping_sub(1),
-        replica.bal_max_seen.wrapping_add(1),
-        replica.bal_prep_sent,
-        replica.bal_prepared,
+        replica.bal_max_seen(),
+        replica.bal_max_seen().wrapping_sub(1),
+        replica.bal_max_seen().wrapping_add(1),
+        replica.bal_prep_sent(),
+        replica.bal_prepared(),
         round.wrapping_mul(256).wrapping_add(owner),
         round.wrapping_sub(1).wrapping_mul(256).wrapping_add(owner),
         round.wrapping_add(1).wrapping_mul(256),
@@ -113,13 +113,13 @@ fn edge_ballot(rng: &mut Rng, replica: &Replica, peer: u8) -> u64 {
 }
 
 /// A ballot that deposes, owned by its sender.
-pub(super) fn larger_ballot(rng: &mut Rng, replica: &Replica, peer: u8) -> u64 {
-    let round = replica.bal_max_seen / 256;
+pub(super) fn larger_ballot(rng: &mut Rng, replica: Shown, peer: u8) -> u64 {
+    let round = replica.bal_max_seen() / 256;
     let more = rng.pick(&[0, 0, 1, 2]);
     round.wrapping_add(more).wrapping_mul(256).wrapping_add(u64::from(peer) + 1)
 }
 
 /// A key, or a tag with a slot and a value.
-fn edge_entry(rng: &mut Rng, replica: &Replica) -> [u64; 3] {
+fn edge_entry(rng: &mut Rng, replica: Shown) -> [u64; 3] {
     [rng.pick(&[0, 1, 2, 2, 3, u64::MAX]), edge_slot(rng, replica), rng.pick(&[0, 1, u64::MAX])]
 }

@@ -20,11 +20,15 @@ with-batch-requires c κs = search needs
 with-leader-requires : tie.Need-with-leader-requires
 with-leader-requires c κs = search needs
 
+own-voted-requires : tie.Need-own-voted-requires
+own-voted-requires c κs = search needs
+
 returns : tie.Need-returns
 returns c =
-    let n = c .before .before .before .before in
-    rw (c .before .with-batch .ensures, c .before .before .with-external .ensures, c .before .before .before .with-state .ensures, n .null-slot .ensures, n .before .new-book .ensures)
-    at (c .with-leader .ensures)
+    let m = c .before in
+    let n = m .before .before .before .before in
+    rw (m .with-leader .ensures, m .before .with-batch .ensures, m .before .before .with-external .ensures, m .before .before .before .with-state .ensures, n .null-slot .ensures, n .before .new-book .ensures)
+    at (c .own-voted .ensures)
 
 pub offered-slot-spec : {M : Type 1} → statement M
 offered-slot-spec =
@@ -36,4 +40,5 @@ offered-slot-spec =
     with-external-requires
     with-batch-requires
     with-leader-requires
+    own-voted-requires
     returns)

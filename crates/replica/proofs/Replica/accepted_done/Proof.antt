@@ -16,7 +16,7 @@ settle-requires : tie.Need-settle-requires
 settle-requires c κs =
     let d = c .before in
     let b = d .before .before .before .before .before in
-    accepted-settles (b .args .self) (b .args .i) (b .args .slot) _ _ (b .pre) (d .decide-accepted .ensures)
+    accepted-settles (b .args .self) (b .args .i) (b .args .slot) (b .args .ballot) _ _ (b .pre) (d .decide-accepted .ensures)
 
 same-length : tie.Need-same-length
 same-length c = search needs
@@ -26,7 +26,7 @@ returns c =
     let h = c .before .before .before .before in
     let d = h .before .before in
     let a = d .before .before .before .before .before .args in
-    accepted-refused (a .self) (a .i) (a .slot) _ _ (d .decide-accepted .ensures) (h .settle .ensures) (c .if1 .taken)
+    accepted-refused (a .self) (a .i) (a .slot) (a .ballot) _ _ (d .decide-accepted .ensures) (h .settle .ensures) (c .if1 .taken)
 
 moved-accept-requires : tie.Need-moved-accept-requires
 moved-accept-requires c κs =
@@ -34,7 +34,7 @@ moved-accept-requires c κs =
     let d = h .before .before in
     let b = d .before .before .before .before .before in
     let a = b .args in
-    accepted-bars (a .self) (a .i) (a .slot) _ _ (d .decide-accepted .ensures) (h .settle .ensures) (b .pre .bars)
+    accepted-bars (a .self) (a .i) (a .slot) (a .ballot) _ _ (d .decide-accepted .ensures) (h .settle .ensures) (b .pre .bars)
 
 same-length-2 : tie.Need-same-length-2
 same-length-2 c = search needs
@@ -45,7 +45,7 @@ returns-2 c =
     let h = e .before .before .before .before in
     let d = h .before .before in
     let a = d .before .before .before .before .before .args in
-    accepted-moved (a .self) (a .i) (a .slot) _ _ (d .decide-accepted .ensures) (h .settle .ensures) _ (e .if1 .left) (c .moved-accept .ensures)
+    accepted-moved (a .self) (a .i) (a .slot) (a .ballot) _ _ (d .decide-accepted .ensures) (h .settle .ensures) _ (e .if1 .left) (c .moved-accept .ensures)
 
 pub accepted-done-spec : {M : Type 1} → statement M
 accepted-done-spec =

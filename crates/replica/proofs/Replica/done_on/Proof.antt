@@ -31,7 +31,7 @@ returns c =
     let h = c .before .before in
     let e = h .before .before in
     let a = e .before .before .before .args in
-    told (ap (doneOn (a .self) (a .i) (a .slot)) (e .enum-told .given .1)) (h .prepared-done .ensures)
+    told (ap (doneOn (a .self) (a .i) (a .slot) (a .ballot)) (e .enum-told .given .1)) (h .prepared-done .ensures)
 
 same-length-2 : tie.Need-same-length-2
 same-length-2 c = search needs
@@ -41,7 +41,7 @@ returns-2 c =
     let h = c .before .before in
     let e = h .before .before in
     let a = e .before .before .before .args in
-    told (ap (doneOn (a .self) (a .i) (a .slot)) (e .enum-told2 .given .1)) (h .accepted-done .ensures)
+    told (ap (doneOn (a .self) (a .i) (a .slot) (a .ballot)) (e .enum-told2 .given .1)) (h .accepted-done .ensures)
 
 same-length-3 : tie.Need-same-length-3
 same-length-3 c = search needs
@@ -51,7 +51,7 @@ returns-3 c =
     let h = c .before .before in
     let e = h .before .before in
     let a = e .before .before .before .args in
-    told (ap (doneOn (a .self) (a .i) (a .slot)) (e .enum-told3 .given .1)) (h .committed-done .ensures)
+    told (ap (doneOn (a .self) (a .i) (a .slot) (a .ballot)) (e .enum-told3 .given .1)) (h .committed-done .ensures)
 
 pub done-on-spec : {M : Type 1} → statement M
 done-on-spec =

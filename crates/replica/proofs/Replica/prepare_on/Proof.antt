@@ -57,6 +57,9 @@ add-endprep c =
 put-down-requires : tie.Need-put-down-requires
 put-down-requires c κs = search needs
 
+strict-requires : tie.Need-strict-requires
+strict-requires c κs = search needs
+
 prepare-range-requires : tie.Need-prepare-range-requires
 prepare-range-requires c κs = search needs
 
@@ -66,7 +69,7 @@ followed-requires c κs = search needs
 sub-bar : tie.Need-sub-bar
 sub-bar c =
     let s = c .before .before .before .before .before in
-    let o = s .before .before .before .before .before .before .before .before .before in
+    let o = s .before .before .before .before .before .before .before .before .before .before in
     omega (arith, o .before .before .before .before .before .pre .commit)
 
 count-at-requires : tie.Need-count-at-requires
@@ -83,13 +86,14 @@ returns-2 c =
     let n = c .before .before in
     let f = n .before .before in
     let s = f .before .before .before .before in
-    let k = s .before .before .before .before in
+    let q = s .before .before in
+    let k = q .before .before .before in
     let o = k .before .before .before .before .before in
     let l = o .before .before in
     let b = l .before .before .before in
     let a = b .args in
     let t = top l in
-    prepare-told (a .self) (a .w) (a .from) (a .peer) (a .ballot) _ (covered l) _ (o .before .any-above .ensures ∙ above-in (a .w) (a .from) (l .larger-of .result + 1) (a .ballot) (omega (arith, t))) (b .pre) (o .if1 .left) (k .put-down .ensures)
+    prepare-told (a .self) (a .w) (a .from) (a .peer) (a .ballot) _ (covered l) _ (o .before .any-above .ensures ∙ above-in (a .w) (a .from) (l .larger-of .result + 1) (a .ballot) (omega (arith, t))) (q .strict .ensures) (b .pre) (o .if1 .left) (k .put-down .ensures)
     (swept-in (s .prepare-range .ensures) (omega (arith, t, b .pre, k .put-down .ensures .few, k .put-down .kept .0)))
     (f .followed .ensures) (n .count-at .ensures) (c .prepared-from .ensures)
 
@@ -106,6 +110,7 @@ prepare-on-spec =
     add-trigger
     add-endprep
     put-down-requires
+    strict-requires
     prepare-range-requires
     followed-requires
     sub-bar

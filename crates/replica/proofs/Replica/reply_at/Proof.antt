@@ -2,6 +2,8 @@ use native.Mathlib.Omega.{arith}
 use mathlib.Core.Path.{_≡_, refl, sym, _∙_}
 use borrow.Author.Tests.{ne-eqb, not-true, not-false}
 use lib.ListN.{length, length-map}
+use Rattle.window.specs.declared.Window.{Window}
+use Rattle.window.specs.Window.{putSlot}
 use Rattle.replica.specs.ActingLaws.{refuse}
 use Rattle.replica.specs.Replying.{sweptTo}
 use Rattle.replica.specs.ReplyLaws.{swept-end, Weighs, weighs-read, more-few, reply-refused, reply-full, reply-told, reply-still}
@@ -16,11 +18,18 @@ wide c =
     sym (length-map (c .args .self .window .slots) _) ∙ w .1 .1 .1 .0 .1 .0 .1
 
 -- where the call is entered, the slots are appended, and the reply is weighed
+abbrev noted-entry : tie.After-noted → tie.Start
+noted-entry c = c .before .before .before .before .before .before .before .before .before .before .before
+
 abbrev entry : tie.After-weigh → tie.Start
-entry c = c .before .before .before .before .before .before .before .before .before .before .before .before
+entry c = noted-entry (c .before .before .before .before)
 
 abbrev appending : tie.After-weigh → tie.After-append
-appending c = c .before .before .before .before
+appending c = c .before .before .before .before .before .before .before
+
+-- the window with the note
+abbrev heard : tie.After-weigh → Window
+heard c = putSlot (appending c .append .result) (entry c .args .i) (c .before .before .before .before .noted .result)
 
 abbrev weighing : tie.Else2 → tie.After-weigh
 weighing c = c .before .before .before .before .before .before .before
@@ -38,24 +47,25 @@ noting c = c .before .before .before .before
 abbrev entering : tie.After-struct-known4 → tie.After-enter-range
 entering c = c .before .before .before .before
 
--- what was weighed of the window with the slots appended
+-- what was weighed of the window with the slots appended and the reply noted
 weighs : (c : tie.After-weigh)
-    → Weighs (entry c .args .self) (entry c .args .peer) (entry c .args .m) (entry c .args .i) (entry c .args .j) (appending c .append .result)
-    (c .before .with-fallen .result) (c .weigh .result)
+    → Weighs (entry c .args .self) (entry c .args .peer) (entry c .args .m) (entry c .args .i) (entry c .args .j) (heard c)
+    (c .before .before .with-fallen .result) (c .weigh .result)
 weighs c =
     let w = appending c in
+    let n = c .before .before .before .before in
     let s = entry c in
     let a = s .args in
-    weighs-read (a .self) (a .peer) (a .m) (a .i) (a .j) _ _ _ (w .before .new-book .ensures) (w .append .ensures) (s .pre .place) (c .before .with-fallen .ensures) (c .weigh .ensures)
-    (omega (arith, wide s, s .pre))
+    weighs-read (a .self) (a .peer) (a .m) (a .i) (a .j) (heard c) _ _ (s .pre) (omega (arith, wide s, s .pre)) (w .before .new-book .ensures) (w .append .ensures)
+    (n .before .before .strict .ensures) (n .noted .ensures) refl (c .before .before .with-fallen .ensures) (c .before .counts .ensures) (c .weigh .ensures)
 
 -- where the quorum is made the slots up to the log's end enter Accept
 abbrev quorum : tie.Else3 → tie.After-weigh
 quorum c = weighing (promised (c .before .before))
 
-whole : (c : tie.Else3) → appending (quorum c) .append .result .len ≡ sweptTo (appending (quorum c) .append .result) (entry (quorum c) .args .j) (quorum c .weigh .result)
+whole : (c : tie.Else3) → appending (quorum c) .append .result .len ≡ sweptTo (heard (quorum c)) (entry (quorum c) .args .j) (quorum c .weigh .result)
 whole c =
-    swept-end (appending (quorum c) .append .result) (entry (quorum c) .args .j) (quorum c .weigh .result) (not-false (quorum c .weigh .result .enters) (c .if3 .left))
+    swept-end (heard (quorum c)) (entry (quorum c) .args .j) (quorum c .weigh .result) (not-false (quorum c .weigh .result .enters) (c .if3 .left))
 
 mul-known : tie.Need-mul-known
 mul-known c = search needs
@@ -75,20 +85,35 @@ add-end c = search needs
 append-requires : tie.Need-append-requires
 append-requires c κs = search needs
 
-mul-s : tie.Need-mul-s
-mul-s c = search needs
+strict-requires : tie.Need-strict-requires
+strict-requires c κs = search needs
 
-element-copy-out-s : tie.Need-element-copy-out-s
-element-copy-out-s c = search needs
+mul-heard : tie.Need-mul-heard
+mul-heard c = search needs
+
+element-copy-out-heard : tie.Need-element-copy-out-heard
+element-copy-out-heard c = search needs
+
+noted-requires : tie.Need-noted-requires
+noted-requires c κs = search needs
+
+mul-s : tie.Need-mul-s
+mul-s c = omega (arith, noted-entry c .pre)
+
+element-set-from-s : tie.Need-element-set-from-s
+element-set-from-s c = omega (arith, noted-entry c .pre)
 
 mul-t : tie.Need-mul-t
-mul-t c = search needs
+mul-t c = omega (arith, noted-entry c .pre)
 
 element-copy-out-t : tie.Need-element-copy-out-t
-element-copy-out-t c = search needs
+element-copy-out-t c = omega (arith, noted-entry c .pre)
 
 with-fallen-requires : tie.Need-with-fallen-requires
 with-fallen-requires c κs = search needs
+
+counts-requires : tie.Need-counts-requires
+counts-requires c κs = search needs
 
 weigh-requires : tie.Need-weigh-requires
 weigh-requires c κs = search needs
@@ -188,7 +213,7 @@ returns-4 c =
     let k = e .before .before in
     let a = entry k .args in
     reply-told (a .self) (a .peer) (a .m) (a .i) (a .j) _ _ _ (weighs k) (entry k .pre) (e .if1 .left) (t .too-many .ensures) (promised n .if2 .left) (p .put-promises .ensures)
-    (whole (r .before .before)) (r .enter-range .ensures) (n .before .with-bar .ensures) (n .note-if .ensures) (m .before .larger-of .ensures) (m .count-at .ensures)
+    (whole (r .before .before)) (k .before .before .before .before .before .before .strict .ensures) (r .enter-range .ensures) (n .before .with-bar .ensures) (n .note-if .ensures) (m .before .larger-of .ensures) (m .count-at .ensures)
 
 pub reply-at-spec : {M : Type 1} → statement M
 reply-at-spec =
@@ -200,11 +225,16 @@ reply-at-spec =
     new-book-requires
     add-end
     append-requires
+    strict-requires
+    mul-heard
+    element-copy-out-heard
+    noted-requires
     mul-s
-    element-copy-out-s
+    element-set-from-s
     mul-t
     element-copy-out-t
     with-fallen-requires
+    counts-requires
     weigh-requires
     kept-requires
     returns

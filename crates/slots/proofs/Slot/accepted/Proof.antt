@@ -2,6 +2,9 @@ use borrow.Author.Needs.{needs}
 use Rattle.slots.proofs.Slot.accepted.Statement.{statement}
 use Rattle.slots.proofs.Slot.accepted.Tie as tie
 
+put-back-requires : tie.Need-put-back-requires
+put-back-requires c κs = search needs
+
 sourced-requires : tie.Need-sourced-requires
 sourced-requires c κs = search needs
 
@@ -20,13 +23,14 @@ with-vote-requires c κs = search needs
 returns : tie.Need-returns
 returns c =
     let n = c .before .before .before in
-    rw (c .before .with-replica .ensures, c .before .before .with-batch .ensures, n .with-state .ensures, n .before .sourced .ensures)
+    rw (c .before .with-replica .ensures, c .before .before .with-batch .ensures, n .with-state .ensures, n .before .sourced .ensures, n .before .before .before .put-back .ensures)
     at (c .with-vote .ensures)
 
 pub accepted-spec : {M : Type 1} → statement M
 accepted-spec =
     tie.close
     (tie.spec
+    put-back-requires
     sourced-requires
     with-state-requires
     with-batch-requires

@@ -7,10 +7,13 @@ use Rattle.tell.proofs.slots_text.slots.Statement.{statement}
 use Rattle.tell.proofs.slots_text.slots.Tie as tie
 
 abbrev Inv-loop : tie.InvT-loop
-Inv-loop text₀ at start w next₀ i₀ text next i = (i ≤ 64) × (length text ≡ length text₀)
+Inv-loop text₀ at sc w strict₀ next₀ i₀ text next i = (i ≤ 64) × (length text ≡ length text₀)
 
 abbrev μ-loop : tie.MeasureT-loop
-μ-loop text₀ at start w next₀ i₀ text next i = 64 - i
+μ-loop text₀ at sc w strict₀ next₀ i₀ text next i = 64 - i
+
+strict-requires : tie.Need-strict-requires Inv-loop μ-loop
+strict-requires c κs = search needs
 
 loop-holds : tie.Need-loop-holds Inv-loop μ-loop
 loop-holds c = omega arith
@@ -48,6 +51,7 @@ slots-spec =
     (tie.spec
     Inv-loop
     μ-loop
+    strict-requires
     loop-holds
     wrapping-add-u64-requires
     mul-s

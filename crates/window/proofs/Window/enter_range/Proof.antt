@@ -14,12 +14,12 @@ use Rattle.window.proofs.Window.enter_range.Statement.{statement}
 use Rattle.window.proofs.Window.enter_range.Tie as tie
 
 abbrev Inv-loop : tie.InvT-loop
-Inv-loop room₀ k from to start ballot self₀ n₀ i₀ room self n i =
-    Swept (λ j s. enteredSlot s) (λ j s. enterActs (start + j) ballot s) from i k self₀ room₀ (record { next = n; window = self }) room
+Inv-loop room₀ k from to start strict ballot self₀ n₀ i₀ room self n i =
+    Swept (λ j s. enteredSlot strict ballot s) (λ j s. enterActs (start + j) ballot s) from i k self₀ room₀ (record { next = n; window = self }) room
     × (Ranged from to k room₀ start × ((from ≤ i) × ((i ≤ to) × ((n ≤ k + 2 * (i - from)) × (length room ≡ length room₀)))))
 
 abbrev μ-loop : tie.MeasureT-loop
-μ-loop room₀ k from to start ballot self₀ n₀ i₀ room self n i = to - i
+μ-loop room₀ k from to start strict ballot self₀ n₀ i₀ room self n i = to - i
 
 in-range-requires : tie.Need-in-range-requires Inv-loop μ-loop
 in-range-requires c κs = search needs
@@ -33,7 +33,7 @@ loop-holds : tie.Need-loop-holds Inv-loop μ-loop
 loop-holds c =
     let a = c .before .before .before .args in
     let f = ranged-facts (a .from) (a .to) (a .k) (now (a .room)) (a .start) (granted (c .before .in-range .ensures) (c .if1 .left)) in
-    (sweep-start (λ j s. enteredSlot s) (λ j s. enterActs (a .start + j) (a .ballot) s) (a .from) (a .k) _ _, (f, omega (arith, f)))
+    (sweep-start (λ j s. enteredSlot (a .strict) (a .ballot) s) (λ j s. enterActs (a .start + j) (a .ballot) s) (a .from) (a .k) _ _, (f, omega (arith, f)))
 
 mul-s : tie.Need-mul-s Inv-loop μ-loop
 mul-s c = search needs
@@ -63,7 +63,7 @@ loop-again : tie.Need-loop-again Inv-loop μ-loop
 loop-again c =
     let b = c .before .before .before .before .before .before .before in
     let a = b .before .before .before .before .args in (
-      sweep-turn (λ j s. enteredSlot s) (λ j s. enterActs (a .start + j) (a .ballot) s) (a .from) (a .k) _ _ _ _ _ _ (b .loop .i) (b .loop .inv .1 .1 .0) (omega (arith, b .loop .inv .1 .0)) (b .loop .inv .0)
+      sweep-turn (λ j s. enteredSlot (a .strict) (a .ballot) s) (λ j s. enterActs (a .start + j) (a .ballot) s) (a .from) (a .k) _ _ _ _ _ _ (b .loop .i) (b .loop .inv .1 .1 .0) (omega (arith, b .loop .inv .1 .0)) (b .loop .inv .0)
           (c .before .before .before .enter-one .ensures),
       (b .loop .inv .1 .0, omega arith),
     )

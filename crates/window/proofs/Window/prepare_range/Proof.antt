@@ -15,12 +15,12 @@ use Rattle.window.proofs.Window.prepare_range.Statement.{statement}
 use Rattle.window.proofs.Window.prepare_range.Tie as tie
 
 abbrev Inv-loop : tie.InvT-loop
-Inv-loop room₀ k from to start ballot book self₀ n₀ i₀ room self n i =
-    Swept (λ j s. preparedSlot ballot book s) (λ j s. promise (start + j) ballot ∷ []) from i k self₀ room₀ (record { next = n; window = self }) room
+Inv-loop room₀ k from to start strict ballot book self₀ n₀ i₀ room self n i =
+    Swept (λ j s. preparedSlot strict ballot book s) (λ j s. promise (start + j) ballot ∷ []) from i k self₀ room₀ (record { next = n; window = self }) room
     × (Ranged from to k room₀ start × ((from ≤ i) × ((i ≤ to) × ((n ≤ k + 2 * (i - from)) × (length room ≡ length room₀)))))
 
 abbrev μ-loop : tie.MeasureT-loop
-μ-loop room₀ k from to start ballot book self₀ n₀ i₀ room self n i = to - i
+μ-loop room₀ k from to start strict ballot book self₀ n₀ i₀ room self n i = to - i
 
 in-range-requires : tie.Need-in-range-requires Inv-loop μ-loop
 in-range-requires c κs = search needs
@@ -34,7 +34,7 @@ loop-holds : tie.Need-loop-holds Inv-loop μ-loop
 loop-holds c =
     let a = c .before .before .before .args in
     let f = ranged-facts (a .from) (a .to) (a .k) (now (a .room)) (a .start) (granted (c .before .in-range .ensures) (c .if1 .left)) in
-    (sweep-start (λ j s. preparedSlot (a .ballot) (a .book) s) (λ j s. promise (a .start + j) (a .ballot) ∷ []) (a .from) (a .k) _ _, (f, omega (arith, f)))
+    (sweep-start (λ j s. preparedSlot (a .strict) (a .ballot) (a .book) s) (λ j s. promise (a .start + j) (a .ballot) ∷ []) (a .from) (a .k) _ _, (f, omega (arith, f)))
 
 mul-s : tie.Need-mul-s Inv-loop μ-loop
 mul-s c = search needs
@@ -64,7 +64,7 @@ loop-again : tie.Need-loop-again Inv-loop μ-loop
 loop-again c =
     let b = c .before .before .before .before .before .before .before in
     let a = b .before .before .before .before .args in (
-      sweep-turn (λ j s. preparedSlot (a .ballot) (a .book) s) (λ j s. promise (a .start + j) (a .ballot) ∷ []) (a .from) (a .k) _ _ _ _ _ _ (b .loop .i) (b .loop .inv .1 .1 .0) (omega (arith, b .loop .inv .1 .0)) (b .loop .inv .0)
+      sweep-turn (λ j s. preparedSlot (a .strict) (a .ballot) (a .book) s) (λ j s. promise (a .start + j) (a .ballot) ∷ []) (a .from) (a .k) _ _ _ _ _ _ (b .loop .i) (b .loop .inv .1 .1 .0) (omega (arith, b .loop .inv .1 .0)) (b .loop .inv .0)
           (c .before .before .before .prepare-one .ensures),
       (b .loop .inv .1 .0, omega arith),
     )
