@@ -61,6 +61,13 @@ impl Group {
         self.give(to, received(from as u8, message));
     }
 
+    /// Member 2 gets the leader's Prepare, and its answer for slot 0 arrives.
+    fn asks_member_2(&mut self, leader: usize, ballot: u64) {
+        self.hears(2, leader, Kind::Prepare, 0, ballot);
+        self.finishes(2, Entry::PrepareBal, 0, ballot);
+        self.hears(leader, 2, Kind::PrepareReply, 0, ballot);
+    }
+
     /// Slot 1's batch, where the member has marked it.
     fn marked(&self, member: usize) -> Option<u64> {
         let slots = self.members[member].slots();
@@ -87,16 +94,12 @@ fn up_to_the_late_entry(group: &mut Group) {
     // Member 0 leads at 257 by member 2's reply; batch 7 is offered, and its Accepts are lost.
     group.steps_up(0, 0);
     group.finishes(0, Entry::PrepareBal, 0, 257);
-    group.hears(2, 0, Kind::Prepare, 0, 257);
-    group.finishes(2, Entry::PrepareBal, 0, 257);
-    group.hears(0, 2, Kind::PrepareReply, 0, 257);
+    group.asks_member_2(0, 257);
     group.is_offered(0, 7);
     // Member 1 leads at 258 by member 2's reply; batch 8 is offered.
     group.steps_up(1, 1);
     group.finishes(1, Entry::PrepareBal, 0, 258);
-    group.hears(2, 1, Kind::Prepare, 0, 258);
-    group.finishes(2, Entry::PrepareBal, 0, 258);
-    group.hears(1, 2, Kind::PrepareReply, 0, 258);
+    group.asks_member_2(1, 258);
     group.is_offered(1, 8);
     // Member 0 gets member 1's Prepare, and only now its own entry of batch 7 is finished.
     group.hears(0, 1, Kind::Prepare, 0, 258);
@@ -108,9 +111,7 @@ fn from_the_third_step_up(group: &mut Group) {
     group.steps_up(0, 1);
     group.finishes(0, Entry::PrepareBal, 0, 513);
     group.finishes(0, Entry::PrepareBal, 1, 513);
-    group.hears(2, 0, Kind::Prepare, 0, 513);
-    group.finishes(2, Entry::PrepareBal, 0, 513);
-    group.hears(0, 2, Kind::PrepareReply, 0, 513);
+    group.asks_member_2(0, 513);
     group.finishes(0, Entry::AcceptData, 1, 513);
     group.hears(2, 0, Kind::Accept, 1, 513);
     group.finishes(2, Entry::AcceptData, 1, 513);

@@ -6,15 +6,14 @@ use Prim.Native.Nat.{ℕ}
 use lib.Dec.{ltb, leb}
 use Rattle.base.specs.Pick.{pick}
 use Rattle.decide.specs.Scalars.{strict}
-use Rattle.decide.specs.Decide.{decideAccepted}
 use Rattle.replica.specs.declared.Replica.{Replica}
 use Rattle.replica.specs.declared.Entry.{Entry}
-use Rattle.replica.specs.declared.Entry.the-variants.{PrepareBal, AcceptData, CommitSlot}
 use Rattle.replica.specs.declared.Done.{Done}
 use Rattle.replica.specs.Record.{Outcome, kept, summed, place, logEnd}
 use Rattle.replica.specs.Fit.{ready, unready}
 use Rattle.replica.specs.Messages.{orKept}
-use Rattle.replica.specs.Durability.{preparedDone, acceptedDone, doneOn, loggedOn, loggedStep}
+use Rattle.replica.specs.Durability.{loggedOn, loggedStep}
+use Rattle.replica.specs.CompletionLaws.{done-alike}
 use Rattle.replica.specs.Step.{Call, callPrepare, callPrepareReply, callAccept, callAcceptReply, callCommitNotice, callTimeout, callLogged, callOffer, callExecuted, callOpenRead, callReadReply, step}
 use Rattle.laws.specs.WaysDurability.{completion}
 
@@ -22,14 +21,6 @@ use Rattle.laws.specs.WaysDurability.{completion}
 pub data Alike : Call → Call → Type 0 where
   same-call : (c : Call) → Alike c c
   same-entry : (entry : Entry) (slot ballot ballot′ size : ℕ) → Alike (callLogged (completion entry slot ballot size)) (callLogged (completion entry slot ballot′ size))
-
--- in the base kind no completion is stale, so that its ballot is read nowhere
-module _ (r : Replica) (i slot ballot ballot′ : ℕ) (k : strict (r .sc) ≡ false) where
-  done-alike : (e : Entry) → doneOn r i slot ballot e ≡ doneOn r i slot ballot′ e
-  unfolding preparedDone acceptedDone decideAccepted
-  done-alike PrepareBal = rw k
-  done-alike AcceptData = rw k
-  done-alike CommitSlot = refl
 
 completes-alike : (r : Replica) (room : ℕ) (entry : Entry) (slot ballot ballot′ size : ℕ) → strict (r .sc) ≡ false
     → loggedStep r room (completion entry slot ballot size) ≡ loggedStep r room (completion entry slot ballot′ size)

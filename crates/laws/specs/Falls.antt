@@ -177,3 +177,21 @@ falls-only r n c e = go (decide (ready r n)) (same? (step r n c .answer) 0)
         )
     go (inl t) (inr z) = omega (arith, ap (λ (x : Summary). x .first) (summary-kept r n c z .2))
     go (inr t) w = omega (arith, ap (λ (o : Outcome). o .replica .summary .first) (step-unready r n c t))
+
+-- 02, Wish 6, (d), of each slot: what is Committed or Executed at a strict replica stays so, whatever is called
+pub committed-stays : (r : Replica) (n : ℕ) (c : Call) (i : ℕ) → strict (r .sc) ≡ true → i < r .window .len → 3 ≤ slotAt (r .window) i .status
+    → 3 ≤ slotAt (step r n c .replica .window) i .status
+committed-stays r n c i k l h = other-raised r n c (rw k (none c)) .closed i l h
+  where
+    none : (c : Call) → mayFall true c ≡ false
+    none (callPrepare peer trigger ballot) = refl
+    none (callPrepareReply peer m) = refl
+    none (callAccept peer slot ballot b) = refl
+    none (callAcceptReply peer slot ballot) = refl
+    none (callCommitNotice peer ballot bar) = refl
+    none (callTimeout source) = refl
+    none (callLogged d) = refl
+    none (callOffer b) = refl
+    none (callExecuted slot) = refl
+    none (callOpenRead id count keys) = refl
+    none (callReadReply peer id fromLeader reply) = refl

@@ -1,5 +1,5 @@
 -- The call that a record of each kind names, the ways of playing one, and that on a base replica kind 8's ballot makes no difference.
-use mathlib.Core.Path.{_≡_, refl, sym, _∙_}
+use mathlib.Core.Path.{_≡_, sym, _∙_}
 use mathlib.Core.Bool.{Bool, true, false}
 use mathlib.Core.List.{List}
 use Prim.Native.Nat.{ℕ}
@@ -9,14 +9,12 @@ use Rattle.batch.specs.declared.Batch.{Batch}
 use Rattle.tally.specs.declared.Tally.{Tally}
 use Rattle.decide.specs.declared.Reply.{Reply}
 use Rattle.decide.specs.Scalars.{strict}
-use Rattle.decide.specs.Decide.{decideAccepted}
 use Rattle.replica.specs.declared.Replica.{Replica}
 use Rattle.replica.specs.declared.Made.{Made}
-use Rattle.replica.specs.declared.Entry.{Entry}
-use Rattle.replica.specs.declared.Entry.the-variants.{PrepareBal, AcceptData, CommitSlot}
 use Rattle.replica.specs.declared.Done.{Done}
 use Rattle.replica.specs.Record.{kept, place, newReplica}
-use Rattle.replica.specs.Durability.{preparedDone, acceptedDone, doneOn, loggedOn, loggedStep}
+use Rattle.replica.specs.Durability.{loggedOn, loggedStep}
+use Rattle.replica.specs.CompletionLaws.{done-alike}
 use Rattle.replica.specs.Step.{callPrepare, callPrepareReply, callAccept, callAcceptReply, callCommitNotice, callTimeout, callLogged, callOffer, callExecuted, callOpenRead, callReadReply, step}
 use Rattle.trace.specs.declared.Record.{Record}
 use Rattle.trace.specs.Records.{keysOf, malformed, recordAt, sumRight}
@@ -106,14 +104,6 @@ withBallot d b =
       bar = d .bar;
       entries = d .entries;
     }
-
--- in the base kind no completion is stale, so that its ballot is read nowhere
-module _ (r : Replica) (i slot b b′ : ℕ) (k : strict (r .sc) ≡ false) where
-  done-alike : (e : Entry) → doneOn r i slot b e ≡ doneOn r i slot b′ e
-  unfolding preparedDone acceptedDone decideAccepted
-  done-alike PrepareBal = rw k
-  done-alike AcceptData = rw k
-  done-alike CommitSlot = refl
 
 pub plays-alike : (r : Replica) (n : ℕ) (d : Record) (right : Bool) (b : ℕ) → strict (r .sc) ≡ false → d .kind ≡ 8
     → played r n (withBallot d b) right ≡ played r n d right

@@ -22,7 +22,7 @@ use Rattle.slots.specs.Slots.{loggedSlot, passedSlot}
 use Rattle.decide.specs.declared.Scalars.{Scalars}
 use Rattle.decide.specs.declared.Decided.{Decided}
 use Rattle.decide.specs.declared.Reply.{Reply}
-use Rattle.decide.specs.Scalars.{leads, withAcceptBar, withBars, withLogSize, notifies}
+use Rattle.decide.specs.Scalars.{leads, strict, withAcceptBar, withBars, withLogSize, notifies}
 use Rattle.decide.specs.Decide.{decidePromised, isStale, decideAccepted}
 use Rattle.decide.specs.Laws.{Steady, steady-self, Settles, done, refused, settles-promised, settles-accepted}
 use Rattle.decide.specs.PrepareReply.{ownReply}
@@ -450,3 +450,11 @@ module _ (r : Replica) (room : ℕ) (d : Done) where
                 let e = goes ∙ ap (λ (b : Bool). pick b handler (kept (handler .answer) r)) (ne-eqb (handler .answer) 0 m) in
                 subst (λ (o : Outcome). Told o x before after) (sym (ap summed e ∙ summed-refused (handler .answer) r (ne-eqb (handler .answer) 0 m)))
                 (record { handed = c ∙ rw a; written = u .written ∙ ap (writeActions before) quiet })
+
+-- ── in the base kind no completion is stale, so that its ballot is read nowhere ──
+module _ (r : Replica) (i slot ballot ballot′ : ℕ) (k : strict (r .sc) ≡ false) where
+  pub done-alike : (e : Entry) → doneOn r i slot ballot e ≡ doneOn r i slot ballot′ e
+  unfolding preparedDone acceptedDone decideAccepted
+  done-alike PrepareBal = rw k
+  done-alike AcceptData = rw k
+  done-alike CommitSlot = refl
