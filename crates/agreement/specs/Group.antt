@@ -41,7 +41,7 @@ abbrev pub MarkOk : (ℕ → List Act) → Mark → Type 0
 MarkOk did k = acceptEntry (k .slot) (k .ballot) (k .batch) ∈ did (k .who)
 
 pub record Inv (g : Group) (w : World) : Type 0 where
-  pub local : (m : ℕ) → g .present m ≡ true → Local m (viewOf (w .replica m)) (w .did m)
+  pub local : (m : ℕ) → g .present m ≡ true → Local m (viewOf (w .replica m)) (w .did m) (w .did m)
   pub none : (m : ℕ) → g .present m ≡ false → w .did m ≡ []
   -- an accept entry stands also in the log of its ballot's owner
   pub from : (m s b : ℕ) (e : Batch) → acceptEntry s b e ∈ w .did m → (p : ℕ) × Owns p b × (acceptEntry s b e ∈ w .did p)
@@ -116,11 +116,11 @@ accept-sent w m room _ (opening id count keys) p s b e q = absurd (clash (ap isA
 accept-sent w m room _ (replied peer id f reply) p s b e q = absurd (clash (ap isAccept q) refl)
 
 -- ── the only place that looks into `put` ──
-upd-same : {A : Type 0} (f : ℕ → A) (k : ℕ) (v : A) → upd f k v k ≡ v
+pub upd-same : {A : Type 0} (f : ℕ → A) (k : ℕ) (v : A) → upd f k v k ≡ v
 unfolding upd
 upd-same f k v = rw (eq-eqb k k refl)
 
-upd-other : {A : Type 0} (f : ℕ → A) (k : ℕ) (v : A) (j : ℕ) → (j ≡ k → ⊥) → upd f k v j ≡ f j
+pub upd-other : {A : Type 0} (f : ℕ → A) (k : ℕ) (v : A) (j : ℕ) → (j ≡ k → ⊥) → upd f k v j ≡ f j
 unfolding upd
 upd-other f k v j h = rw (ne-eqb j k h)
 
@@ -164,8 +164,8 @@ module _ (r : Replica) (c : Call) (n : ℕ) (r′ : Replica) (acts : List Act) (
 -- ── whatever keeps to the frame keeps the invariant: an outcome o of a call c at member m, whose Accept, if it is one, was sent or is refused ──
 module _ (g : Group) (w : World) (i : Inv g w) (m : ℕ) (l : g .present m ≡ true) (c : Call) (o : Outcome) (k : Frame (viewOf (w .replica m)) c (o .answer) (viewOf (o .replica)) (o .actions))
     (sent : (p s b : ℕ) (e : Batch) → c ≡ callAccept p s b e → (acceptSent s b e ∈ w .did p) ⊎ (o .answer ≡ 0 → ⊥)) where
-  now : Local m (viewOf (o .replica)) (w .did m ++ o .actions)
-  now = local-step m (viewOf (w .replica m)) (w .did m) c (o .answer) (viewOf (o .replica)) (o .actions) (i .local m l) k
+  now : Local m (viewOf (o .replica)) (w .did m ++ o .actions) (w .did m ++ o .actions)
+  now = local-step m (viewOf (w .replica m)) (w .did m) (w .did m) c (o .answer) (viewOf (o .replica)) (o .actions) (i .local m l) k
 
   from-told : (s b : ℕ) (e : Batch) → acceptEntry s b e ∈ o .actions → (p : ℕ) (x : Batch) → e ≡ clean x → Owns p b
       → (acceptSent s b x ∈ w .did p) ⊎ (o .answer ≡ 0 → ⊥) → (p : ℕ) × Owns p b × (acceptEntry s b e ∈ put w m o .did p)
@@ -188,7 +188,7 @@ module _ (g : Group) (w : World) (i : Inv g w) (m : ℕ) (l : g .present m ≡ t
 
   -- the accept entry of a slot that is marked is in the log before the call
   pub commit-earlier-in : (s b : ℕ) → commitEntry s b ∈ o .actions → acceptEntry s b (slotOf (o .replica) s .batch) ∈ w .did m
-  commit-earlier-in = commit-earlier m (viewOf (w .replica m)) (w .did m) c (o .answer) (viewOf (o .replica)) (o .actions) (i .local m l) k
+  commit-earlier-in = commit-earlier m (viewOf (w .replica m)) (w .did m) (w .did m) c (o .answer) (viewOf (o .replica)) (o .actions) (i .local m l) k
 
   marks-step : All (MarkOk (put w m o .did)) (marksOf m (w .replica m) (o .replica))
   unfolding marksOf
@@ -205,7 +205,7 @@ module _ (g : Group) (w : World) (i : Inv g w) (m : ℕ) (l : g .present m ≡ t
   pub inv-step : Inv g (put w m o)
   inv-step =
       record {
-        local = λ j. each w m o (λ j r h. g .present j ≡ true → Local j (viewOf r) h) j (λ d. i .local j) (λ _. now);
+        local = λ j. each w m o (λ j r h. g .present j ≡ true → Local j (viewOf r) h h) j (λ d. i .local j) (λ _. now);
         none = λ j. each w m o (λ j r h. g .present j ≡ false → h ≡ []) j (λ d. i .none j) (λ z. absurd (clash l z));
         from = λ j s b e x. from-step j s b e (cases w m o j x);
         mark = subst (All (MarkOk (put w m o .did))) (sym after-marks)
@@ -227,17 +227,17 @@ fresh-good m size start options h =
           (record { under = omega arith; busy = λ _ a _. absurd (omega arith); tidy = refl; tidyVote = refl });
     }
 
-fresh-local : (m size start options : ℕ) → Local m (viewOf (fresh m size start options)) []
+fresh-local : (m size start options : ℕ) → Local m (viewOf (fresh m size start options)) [] []
 fresh-local m size start options =
     local-start m (viewOf (fresh m size start options)) refl
     (λ s. by-place (λ (s : ℕ) (x y : Slot). x .status ≡ 0) start noSlots noSlots (λ s. refl)
     (λ i. ap (λ (x : Slot). x .status) (at-past noSlots i (omega arith))) s)
 
 made-start : (m size start options : ℕ) → newReplica m size start options .answer ≡ 0
-    → GoodReplica (newReplica m size start options .replica) × Local m (viewOf (newReplica m size start options .replica)) []
+    → GoodReplica (newReplica m size start options .replica) × Local m (viewOf (newReplica m size start options .replica)) [] []
 unfolding newReplica
 made-start m size start options =
-    pick-cases (λ (z : Made). z .answer ≡ 0 → GoodReplica (z .replica) × Local m (viewOf (z .replica)) []) (mayBe m size start options)
+    pick-cases (λ (z : Made). z .answer ≡ 0 → GoodReplica (z .replica) × Local m (viewOf (z .replica)) [] []) (mayBe m size start options)
     (λ e _.
     let a : (ltb m size && (leb start 4294967296 && leb options 7)) ≡ true = and-right (groupSize size) (ltb m size && (leb start 4294967296 && leb options 7)) e in
     let b : groupSize size ≡ true = and-left (groupSize size) (ltb m size && (leb start 4294967296 && leb options 7)) e in

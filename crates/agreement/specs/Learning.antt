@@ -75,12 +75,12 @@ module _ (g : Group) (w : World) (reach : Reach g w) (m : ℕ) (p : g .present m
   entry-earlier : acceptEntry (k .slot) (k .ballot) (k .batch) ∈ w .did m
   entry-earlier =
       subst (λ (y : Mark). acceptEntry (k .slot) (k .ballot) (y .batch) ∈ w .did m) (sym (raised .held))
-      (commit-earlier m (viewOf (w .replica m)) (w .did m) c (o .answer) (viewOf (o .replica)) (o .actions) (inv g w reach .local m p) (framed g w reach m p room c) (k .slot)
+      (commit-earlier m (viewOf (w .replica m)) (w .did m) (w .did m) c (o .answer) (viewOf (o .replica)) (o .actions) (inv g w reach .local m p) (framed g w reach m p room c) (k .slot)
       (k .ballot) mark-committed)
 
   at-largest : k .ballot ≡ o .replica .sc .«bal_max_seen»
   at-largest =
-      commit-top m (viewOf (w .replica m)) (w .did m) c (o .answer) (viewOf (o .replica)) (o .actions) (inv g w reach .local m p) (framed g w reach m p room c) (k .slot)
+      commit-top m (viewOf (w .replica m)) (w .did m) (w .did m) c (o .answer) (viewOf (o .replica)) (o .actions) (inv g w reach .local m p) (framed g w reach m p room c) (k .slot)
       (k .ballot) mark-committed
 
 pub marked-earlier : MarkedEarlier

@@ -147,7 +147,7 @@ module _ (g : Group) (kind : g .strict ≡ true) (w : World) (reach : Reach g w)
   capped s x h = inv g w reach .local m p .cap s (x .ballot) (x .batch) h
 
   written : (s : ℕ) (x : Vote) → entryOf s x ∈ o .actions → x .ballot ≡ o .replica .sc .«bal_max_seen»
-  written s x h = new m (viewOf r) (w .did m) c (o .answer) (viewOf (o .replica)) (o .actions) (inv g w reach .local m p) fr s (x .ballot) (x .batch) h .top
+  written s x h = new m (viewOf r) (w .did m) (w .did m) c (o .answer) (viewOf (o .replica)) (o .actions) (inv g w reach .local m p) fr s (x .ballot) (x .batch) h .top
 
   next-voter : r .sc .start ≡ g .start → Voter (g .start) r (w .did m) → Voter (g .start) (o .replica) (w .did m ++ o .actions)
   next-voter at k = record { votes = λ s l. record { mine = mine s l (turn-at s (omega arith) .moves); top = λ x h. top s l x (turn-at s (omega arith) .moves) (List·Memᴰ·append-cases (w .did m) h) } }

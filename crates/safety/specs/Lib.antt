@@ -1,1 +1,9 @@
 pub mod Sight
+pub mod Able
+pub mod Bars
+pub mod Saying
+pub mod SayingReply
+pub mod SayingLogged
+pub mod SayingAll
+pub mod Scene
+pub mod Alone

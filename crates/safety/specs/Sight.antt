@@ -12,7 +12,6 @@ use Rattle.members.specs.Sets.{has}
 use Rattle.batch.specs.declared.Batch.{Batch}
 use Rattle.actions.specs.declared.Action.{Action}
 use Rattle.actions.specs.declared.Promised.{Promised}
-use Rattle.actions.specs.declared.Accepted.{Accepted}
 use Rattle.actions.specs.declared.Action.the-variants.{PrepareBal, AcceptData, CommitSlot, Prepare, PrepareReply, Accept, AcceptReply, CommitNotice, Heartbeat, StatusUp, StatusDown, Execute, ReadAnswer}
 use Rattle.actions.specs.Actions.{Act}
 use Rattle.slots.specs.declared.Vote.{Vote}
@@ -104,7 +103,7 @@ heardVote m = pick (m .voted) (record { ballot = m .vote .ballot; batch = clean 
 
 -- p's reply for slot s with endprep e and a vote, of this lead: a message at bal_prep_sent; or self's own prepare entry, "self uses its own endprep"
 pub data Replied (v : Sight) (c : Call) (p s e : ℕ) (vote : Vote) : Type 0 where
-  replied-peer : (m : Reply) → c ≡ callPrepareReply p m → m .slot ≡ s → m .endprep ≡ e → m .ballot ≡ v .sent → vote ≡ heardVote m → Replied v c p s e vote
+  replied-peer : (m : Reply) → c ≡ callPrepareReply p m → (p ≡ v .me → ⊥) → m .slot ≡ s → m .endprep ≡ e → m .ballot ≡ v .sent → vote ≡ heardVote m → Replied v c p s e vote
   replied-own : (size : ℕ) → p ≡ v .me → c ≡ callLogged (completion PrepareEntry s (v .sent) size) → v .slot s .ballot ≡ v .sent → v .slot s .leader .endprep ≡ e
       → vote ≡ sentVote (v .slot s) → Replied v c p s e vote
 

@@ -29,4 +29,5 @@ pub mod Speaking
 pub mod Ballots
 pub mod Differences
 pub mod Met
+pub mod Core
 pub mod Implied
