@@ -121,7 +121,7 @@ module _ (r : Replica) (n : ℕ) where
       (rises-sweep (λ i s. preparedSlot (strict (r .sc)) ballot (prepareBook (r .sc) (prepareWindow r trigger) (place (r .sc) trigger) peer) s) (place (r .sc) trigger) (prepareEnd r trigger)
       (prepareWindow r trigger) (λ j h. kept-closed (strict (r .sc)) (slotAt (prepareWindow r trigger) j) 1 (not-false _ e) h)))
   other-raised (callAccept peer slot ballot b) e =
-      acceptStep-ways Raised r n peer slot ballot b kept-raised
+      acceptStep-ways Raised r n peer slot ballot b (λ a h. rises-self (r .window))
       (λ f.
       rises-then (rises-filled nullSlot (r .window) _)
       (rises-put (acceptWindow r slot) (place (r .sc) slot) _ (λ h. kept-closed (strict (r .sc)) (slotAt (acceptWindow r slot) (place (r .sc) slot)) 2 (not-false _ e) h)))

@@ -62,7 +62,7 @@ module _ (Z : Type 0) (r : Replica) (g : Good Z r) where
 
   pub accept-good : (n peer slot ballot : ℕ) (b : Batch) → After (acceptStep r n peer slot ballot b)
   accept-good n peer slot ballot b =
-      acceptStep-ways After r n peer slot ballot b after-kept
+      acceptStep-ways After r n peer slot ballot b (λ a h. g)
       (λ f.
       let k : ℕ = place (r .sc) slot + 1 in
       let w = good-grown Z (r .sc .group) (r .window) k (omega (arith, f .low, f .high)) (g .window) in

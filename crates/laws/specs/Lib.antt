@@ -19,6 +19,7 @@ pub mod GoodLogged
 pub mod Room
 pub mod Largest
 pub mod Theorems
+pub mod Fifteen
 pub mod Summaries
 pub mod Falls
 pub mod SummaryRuns

@@ -1,15 +1,16 @@
 -- What holds of every outcome: which answers there are, that all but 0 give no actions and all but 0 and 12 change nothing, that there are
 -- no more than 191 actions, and what never changes.
 use mathlib.Core.Path.{_≡_, refl, sym, ap, subst, _∙_}
-use mathlib.Core.Bool.{Bool, true, _||_}
+use mathlib.Core.Bool.{Bool, true, false, _||_, _&&_}
+use mathlib.Core.Logic.{_⊎_, inl, inr}
 use mathlib.Core.List.{List, [], _∷_}
 use Prim.Native.Nat.{ℕ, _+_, _≤_}
 use native.Mathlib.Nat.{le-refl}
 use native.Mathlib.Omega.{arith}
-use lib.Dec.{eqb}
+use lib.Dec.{ltb, leb, eqb}
 use lib.ListN.{length}
 use borrow.Author.Tests.{ne-eqb}
-use Rattle.base.specs.Pick.{pick, clash}
+use Rattle.base.specs.Pick.{pick, clash, and-left, and-right, and-both, and-make, or-cases}
 use Rattle.base.specs.Gather.{length-gather}
 use Rattle.batch.specs.declared.Batch.{Batch}
 use Rattle.tally.specs.declared.Tally.{Tally}
@@ -28,7 +29,7 @@ use Rattle.window.specs.Summary.{walk}
 use Rattle.window.specs.Places.{size, put-long, filled-long, sweep-long}
 use Rattle.replica.specs.declared.Replica.{Replica}
 use Rattle.replica.specs.declared.Done.{Done}
-use Rattle.replica.specs.Record.{Outcome, summed, place, number}
+use Rattle.replica.specs.Record.{Outcome, kept, summed, place, number}
 use Rattle.replica.specs.Fit.{sums}
 use Rattle.replica.specs.Messages.{prepareBook, prepareStep, orKept, cleanReply, prepareReplyStep, acceptStep, acceptReplyStep}
 use Rattle.replica.specs.Leadership.{timeoutStep, commitNoticeStep}
@@ -41,15 +42,19 @@ use Rattle.laws.specs.OfScalars.{Fixed, fixed-same, fixed-then, followed
 use Rattle.laws.specs.OfFit.{FitNumbers, fit-facts}
 use Rattle.laws.specs.Conflict.{TallyOnly, Conflicts, conflict-only}
 use Rattle.laws.specs.Leaves.{done, orKept-ways}
-use Rattle.laws.specs.WaysMessages.{keeping, keeping-low, Keeps, prepareWindow, prepareEnd, prepareStep-ways, acceptWindow, acceptDecided, acceptStep-ways, acceptReplyStep-ways}
+use Rattle.laws.specs.WaysMessages.{keeping, keeping-low, Keeps, prepareWindow, prepareEnd, prepareStep-ways, acceptWindow, otherNamed, acceptDecided, acceptStep-ways, acceptReplyStep-ways}
 use Rattle.laws.specs.WaysReply.{prepareReplyStep-ways}
 use Rattle.laws.specs.WaysLeadership.{leadWindow, leadFrom, leadTrigger, leadEnd, markEnd, timeoutStep-ways, markFrom, markWindow, commitNoticeStep-ways}
 use Rattle.laws.specs.WaysDurability.{Logs, logged, withSlot, passFrom, loggedStep-ways}
 use Rattle.laws.specs.WaysAdded.{offerWindow, offerStep-ways, executedStep-ways, openReadStep-ways, readAt, readPlace, mergedRead, closed, stayed, readReplyStep-ways}
 use Rattle.laws.specs.Counts.{says-few, smaller-left, prepared-few, replyOn-leaves, led-few, mark-few, mark-end, moved-fixed, moved-window, completes-leaves, passed-few, logged-fixed, logged-long, logged-numbers, read-few}
 
+-- the answers of every call but 12: those with which a replica is kept, and 15 in the strict kind
+abbrev pub answering : Replica → ℕ → Bool
+answering r a = keeping r a || (eqb a 15 && strict (r .sc))
+
 pub record Sound (C : Outcome → Type 0) (r : Replica) (o : Outcome) : Type 0 where
-  pub answers : (keeping r (o .answer) || eqb (o .answer) 12) ≡ true
+  pub answers : (answering r (o .answer) || eqb (o .answer) 12) ≡ true
   pub silent : (o .answer ≡ 0 → ⊥) → o .actions ≡ []
   pub same : (o .answer ≡ 0 → ⊥) → (o .answer ≡ 12 → ⊥) → o .replica ≡ r
   pub conflict : o .answer ≡ 12 → C o
@@ -58,9 +63,12 @@ pub record Sound (C : Outcome → Type 0) (r : Replica) (o : Outcome) : Type 0 w
   pub long : size (o .replica .window) ≡ size (r .window)
 
 module _ (C : Outcome → Type 0) where
+  sound-answer : (r : Replica) (a : ℕ) → answering r a ≡ true → Sound C r (kept a r)
+  sound-answer r a h =
+      record { answers = rw h; silent = λ n. refl; same = λ n m. refl; conflict = λ e. absurd (clash h (ap (answering r) e)); few = omega arith; fixed = fixed-same (r .sc); long = refl }
+
   sound-kept : (r : Replica) → Keeps (Sound C r) r
-  sound-kept r a h =
-      record { answers = rw h; silent = λ n. refl; same = λ n m. refl; conflict = λ e. absurd (clash h (ap (keeping r) e)); few = omega arith; fixed = fixed-same (r .sc); long = refl }
+  sound-kept r a h = sound-answer r a (rw h)
 
   -- what is left to show of a call that acts
   module _ (r after : Replica) (acts : List Act) where
@@ -78,9 +86,24 @@ module _ (C : Outcome → Type 0) where
   -- ── Accept, AcceptReply ──
   accept-sound : (r : Replica) (n peer slot ballot : ℕ) (b : Batch) → Sound C r (acceptStep r n peer slot ballot b)
   accept-sound r n peer slot ballot b =
-      acceptStep-ways (Sound C r) r n peer slot ballot b (sound-kept r)
+      acceptStep-ways (Sound C r) r n peer slot ballot b (λ a h. sound-answer r a (fifteen a h))
       (λ f. sound-done r _ _ (omega (arith, says-few (acceptDecided r peer slot ballot b .says) (acceptDecided r peer slot ballot b .keys))) (followed-fixed (r .sc) peer ballot)
       (put-long (acceptWindow r slot) (place (r .sc) slot) _ ∙ filled-long nullSlot (r .window) (place (r .sc) slot + 1)))
+    where
+      -- 15 is the strict kind's
+      fifteen : (a : ℕ) → (keeping r a || (eqb a 15 && otherNamed r slot ballot b)) ≡ true → answering r a ≡ true
+      fifteen a h = go (or-cases (keeping r a) _ h)
+        where
+          either : (x : Bool) {y : Bool} → y ≡ true → (x || y) ≡ true
+          either true e = refl
+          either false e = e
+
+          go : (keeping r a ≡ true) ⊎ ((eqb a 15 && otherNamed r slot ballot b) ≡ true) → answering r a ≡ true
+          go (inl e) = rw e
+          go (inr e) =
+              let (x, y) = and-both (eqb a 15) (otherNamed r slot ballot b) e in
+              let z = and-right (ltb slot (r .sc .start + 64)) _ (and-right (leb (r .sc .«bal_max_seen») ballot) _ (and-right (leb (r .sc .start) slot) _ y)) in
+              either (keeping r a) (and-make x (and-left (strict (r .sc)) _ z))
 
   acceptReply-sound : (r : Replica) (n peer slot ballot : ℕ) → Sound C r (acceptReplyStep r n peer slot ballot)
   acceptReply-sound r n peer slot ballot =

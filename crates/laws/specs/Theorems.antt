@@ -17,7 +17,7 @@ use Rattle.replica.specs.Record.{Outcome, kept, zeroReplica, newReplica}
 use Rattle.replica.specs.Fit.{fit, sums}
 use Rattle.replica.specs.Step.{Call, step}
 use Rattle.laws.specs.WaysMessages.{keeping}
-use Rattle.laws.specs.Sound.{step-sound}
+use Rattle.laws.specs.Sound.{answering, step-sound}
 use Rattle.laws.specs.Conflict.{Conflicts}
 use Rattle.laws.specs.Room.{step-unready, step-room}
 use Rattle.laws.specs.OfFit.{fresh-fits, fit-facts, facts-fit}
@@ -39,20 +39,19 @@ few-actions r n c = omega (arith, step-sound r n c .few)
 -- 01's table of answers, with 02's 14 where the summary is not the walk's and 15 in the strict kind; 13 is the trace's
 pub few-answers : (r : Replica) (n : ℕ) (c : Call)
     → (step r n c .answer ≤ 12) ⊎ (((step r n c .answer ≡ 14) × (sums r ≡ false)) ⊎ ((step r n c .answer ≡ 15) × (strict (r .sc) ≡ true)))
-few-answers r n c = go (or-cases (keeping r (step r n c .answer)) _ (step-sound r n c .answers))
+few-answers r n c = go (or-cases (answering r (step r n c .answer)) _ (step-sound r n c .answers))
   where
     wrong : (t : Bool) → ((eqb (step r n c .answer) 14 && not t) ≡ true) → (step r n c .answer ≡ 14) × (t ≡ false)
     wrong t e = (eqb-true _ _ (and-left (eqb (step r n c .answer) 14) (not t) e), not-true t (and-right (eqb (step r n c .answer) 14) (not t) e))
 
-    go : (keeping r (step r n c .answer) ≡ true) ⊎ (eqb (step r n c .answer) 12 ≡ true)
+    go : (answering r (step r n c .answer) ≡ true) ⊎ (eqb (step r n c .answer) 12 ≡ true)
         → (step r n c .answer ≤ 12) ⊎ (((step r n c .answer ≡ 14) × (sums r ≡ false)) ⊎ ((step r n c .answer ≡ 15) × (strict (r .sc) ≡ true)))
     go (inl k) =
-        ⊎-elim (λ (t : leb (step r n c .answer) 11 ≡ true). inl (omega (arith, tests)))
-        (λ t.
-        ⊎-elim (λ (u : (eqb (step r n c .answer) 14 && not (sums r)) ≡ true). inr (inl (wrong (sums r) u)))
+        ⊎-elim
+        (λ (t : keeping r (step r n c .answer) ≡ true).
+        ⊎-elim (λ (u : leb (step r n c .answer) 11 ≡ true). inl (omega (arith, tests))) (λ u. inr (inl (wrong (sums r) u))) (or-cases (leb (step r n c .answer) 11) _ t))
         (λ u. inr (inr (eqb-true _ _ (and-left (eqb (step r n c .answer) 15) _ u), and-right (eqb (step r n c .answer) 15) _ u)))
-        (or-cases (eqb (step r n c .answer) 14 && not (sums r)) _ t))
-        (or-cases (leb (step r n c .answer) 11) _ k)
+        (or-cases (keeping r (step r n c .answer)) _ k)
     go (inr e) = inl (omega (arith, tests))
 
 -- 02, Wish 1: 14 to no record that has the walk's numbers

@@ -6,7 +6,7 @@ use mathlib.Core.List.{[], _∷_, _++_}
 use Prim.Native.Nat.{ℕ, _+_, _≤_, _<_}
 use native.Mathlib.Omega.{arith}
 use lib.Dec.{ltb, leb, eqb}
-use borrow.Author.Tests.{ltb-true, ltb-false, leb-false, eqb-true, eqb-false, not-true, not-false}
+use borrow.Author.Tests.{ltb-true, ltb-false, leb-false, le-leb, lt-ltb, eqb-true, eqb-false, not-true, not-false}
 use Rattle.base.specs.Pick.{pick-both, pick-cases, and-left, and-right, and-both, and-make, clash, decide}
 use Rattle.base.specs.Gather.{gather}
 use Rattle.base.specs.Find.{any}
@@ -32,9 +32,9 @@ use Rattle.replica.specs.Messages.{clean, downActs, prepareTop, prepareBook, pr
 use Rattle.laws.specs.Leaves.{done, settledTo, settled-silent, noting-ways}
 use Rattle.laws.specs.OfDecide.{accepts, commits, Acknowledges, decideAccept-ways, decideAcceptReply-ways}
 
--- the answers with which a replica is kept: 0 to 11, 14 where the summary is not the walk's, and 15 in the strict kind; neither 12 nor 13
+-- the answers with which a replica is kept: 0 to 11, and 14 where the summary is not the walk's; neither 12 nor 13, and 15 by Accept alone
 abbrev pub keeping : Replica → ℕ → Bool
-keeping r a = leb a 11 || ((eqb a 14 && not (sums r)) || (eqb a 15 && strict (r .sc)))
+keeping r a = leb a 11 || (eqb a 14 && not (sums r))
 
 pub keeping-low : (r : Replica) (a : ℕ) → leb a 11 ≡ true → keeping r a ≡ true
 keeping-low r a e = rw e
@@ -133,6 +133,15 @@ prepareStep-ways P r n peer trigger ballot k on =
 abbrev pub acceptWindow : Replica → ℕ → Window
 acceptWindow r slot = grown (r .window) (place (r .sc) slot + 1)
 
+-- why it is answered 15: a slot of the window, not at an old ballot, that is committed with another batch
+abbrev pub otherNamed : Replica → ℕ → ℕ → Batch → Bool
+otherNamed r slot ballot b =
+    leb (r .sc .start) slot && (leb (r .sc .«bal_max_seen») ballot
+    && (ltb slot (r .sc .start + 64) && namesOther (r .sc) (slotAt (acceptWindow r slot) (place (r .sc) slot)) (clean b)))
+
+abbrev pub KeepsAccept : (Outcome → Type 0) → Replica → ℕ → ℕ → Batch → Type 0
+KeepsAccept P r slot ballot b = (a : ℕ) → (keeping r a || (eqb a 15 && otherNamed r slot ballot b)) ≡ true → P (kept a r)
+
 abbrev pub acceptDecided : Replica → ℕ → ℕ → ℕ → Batch → Decided
 acceptDecided r peer slot ballot b = accepts (r .sc) (slotAt (acceptWindow r slot) (place (r .sc) slot)) peer slot ballot (clean b)
 
@@ -153,11 +162,11 @@ pub record Accepts (r : Replica) (peer slot ballot : ℕ) (b : Batch) : Type 0 w
   pub not-above : slotAt (acceptWindow r slot) (place (r .sc) slot) .ballot ≤ ballot
   pub room : overfull (r .keys) (clean b) ≡ false
 
-pub acceptStep-ways : (P : Outcome → Type 0) (r : Replica) (n peer slot ballot : ℕ) (b : Batch) → Keeps P r
+pub acceptStep-ways : (P : Outcome → Type 0) (r : Replica) (n peer slot ballot : ℕ) (b : Batch) → KeepsAccept P r slot ballot b
     → (Accepts r peer slot ballot b → P (accepted r peer slot ballot b)) → P (acceptStep r n peer slot ballot b)
 unfolding acceptStep settled
 acceptStep-ways P r n peer slot ballot b k on =
-    pick-cases P (not (ready r n)) (λ x. k (unready r n) (unready-keeping r n (not-true _ x)))
+    pick-cases P (not (ready r n)) (λ x. k (unready r n) (rw (unready-keeping r n (not-true _ x))))
     (λ x. pick-cases P (not (isPeer (r .sc) peer)) (λ c. k 2 refl)
     (λ c. pick-cases P (not (owns ballot peer)) (λ d. k 3 refl)
     (λ d. pick-cases P (not (isBatch (b .id) (b .count))) (λ e. k 10 refl)
@@ -165,7 +174,7 @@ acceptStep-ways P r n peer slot ballot b k on =
     (λ f. pick-cases P (ltb ballot (r .sc .«bal_max_seen»)) (λ g. k 0 refl)
     (λ g. pick-cases P (leb (r .sc .start + 64) slot) (λ h. k 5 refl)
     (λ h. decideAccept-ways (λ (d : Decided). P (settled r (acceptWindow r slot) (place (r .sc) slot) slot d)) (r .sc) (slotAt (acceptWindow r slot) (place (r .sc) slot)) peer slot ballot (clean b)
-    (λ o. k 15 (and-left (strict (r .sc)) _ o)) (k 6 refl)
+    (λ o. k 15 (and-make (le-leb (r .sc .start) slot (ltb-false _ _ f)) (and-make (le-leb (r .sc .«bal_max_seen») ballot (ltb-false _ _ g)) (and-make (lt-ltb slot (r .sc .start + 64) (leb-false _ _ h)) o)))) (k 6 refl)
     (λ o i. noting-ways P r true slot (clean b) _ _ refl (k 7 refl)
     (λ j. on
     (record {

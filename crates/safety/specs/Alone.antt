@@ -13,7 +13,7 @@ use Rattle.base.specs.Among.{_∈_, all-in}
 use Rattle.batch.specs.declared.Batch.{Batch}
 use Rattle.actions.specs.declared.Notice.{Notice}
 use Rattle.actions.specs.declared.Action.the-variants.{CommitNotice}
-use Rattle.actions.specs.Actions.{Act, act}
+use Rattle.actions.specs.Actions.{Act}
 use Rattle.slots.specs.declared.Vote.{Vote}
 use Rattle.slots.specs.declared.Slot.{Slot}
 use Rattle.slots.specs.Slots.{nullSlot}
@@ -27,7 +27,7 @@ use Rattle.agreement.specs.ForGood.{EntryIn}
 use Rattle.agreement.specs.Frame.{Owns, Clean, Wrote, ActOk}
 use Rattle.agreement.specs.Local.{Local, local-step, new}
 use Rattle.safety.specs.Sight.{Sight, plain, Fine, Ends, Promises, Notices, Says, Rose, GoesOn, Lead, rose, on, Strict}
-use Rattle.safety.specs.Scene.{promises, PromisedIn}
+use Rattle.safety.specs.Scene.{promises, PromisedIn, deed}
 
 -- no vote in slot k below b stands in the log l
 abbrev pub NoneIn : List Act → ℕ → ℕ → Type 0
@@ -55,7 +55,7 @@ pub record Alone (j : ℕ) (v : Sight) (h l : List Act) (r : List Done) : Type 0
   pub ends : v .leading ≡ true → (s : ℕ) → promise s (v .sent) ∈ l → (k : ℕ) → v .slot s .leader .endprep < k → v .slot k .status ≡ 1 → NoneIn l k (v .sent)
   -- below commit_bar slots are committed; a CommitNotice that it sent is not above what it has seen, nor, at the ballot that it leads by, past its bar
   pub barred : (s : ℕ) → v .start ≤ s → s < v .bar → 3 ≤ v .slot s .status
-  pub behind : (a : Notice) (keys : List ℕ) → act (CommitNotice a) keys ∈ h → (a .ballot ≤ v .seen) × (v .leading ≡ true → v .seen ≡ a .ballot → a .bar ≤ v .bar)
+  pub behind : (a : Notice) (keys : List ℕ) → deed (CommitNotice a) keys ∈ h → (a .ballot ≤ v .seen) × (v .leading ≡ true → v .seen ≡ a .ballot → a .bar ≤ v .bar)
 
 module _ (j : ℕ) (v : Sight) (h l : List Act) (r : List Done) (c : Call) (n : ℕ) (v′ : Sight) (acts : List Act) (dones : List Done) (i : Alone j v h l r)
     (k : Strict v c n v′ acts) (written : (d : Done) → d ∈ dones → EntryIn l (d .entry) (d .slot) (d .ballot)) where
@@ -204,7 +204,7 @@ module _ (j : ℕ) (v : Sight) (h l : List Act) (r : List Done) (c : Call) (n : 
       go (inl e) = i .barred s (omega (arith, k .frame .fixed)) (ltb-true _ _ e)
       go (inr e) = k .bars .passes s (ltb-false _ _ e) b
 
-  behind-step : (a : Notice) (keys : List ℕ) → (act (CommitNotice a) keys ∈ h) ⊎ (act (CommitNotice a) keys ∈ acts)
+  behind-step : (a : Notice) (keys : List ℕ) → (deed (CommitNotice a) keys ∈ h) ⊎ (deed (CommitNotice a) keys ∈ acts)
       → (a .ballot ≤ v′ .seen) × (v′ .leading ≡ true → v′ .seen ≡ a .ballot → a .bar ≤ v′ .bar)
   behind-step a keys (inr m) =
       let y : Notices v v′ (a .ballot) (a .bar) = all-in (λ (x : Act). Says v c v′ (x .keys) (x .what)) (k .said) m in

@@ -14,7 +14,7 @@ use Rattle.actions.specs.declared.Accepted.{Accepted}
 use Rattle.actions.specs.declared.Notice.{Notice}
 use Rattle.actions.specs.declared.Action.{Action}
 use Rattle.actions.specs.declared.Action.the-variants.{PrepareBal, AcceptData, CommitSlot, Prepare, PrepareReply, Accept, AcceptReply, CommitNotice, Heartbeat, StatusUp, StatusDown, Execute, ReadAnswer}
-use Rattle.actions.specs.Actions.{Act, act}
+use Rattle.actions.specs.Actions.{Act}
 use Rattle.slots.specs.declared.Vote.{Vote}
 use Rattle.decide.specs.declared.Reply.{Reply}
 use Rattle.replica.specs.declared.Entry.{Entry}
@@ -72,6 +72,10 @@ abbrev pub Fixed : ℕ → Scene → ℕ → ℕ → Batch → Type 0
 Fixed size g s b e = (x : Vote) × (x .ballot ≤ b) × (x .batch ≡ e) × Chosen size (Lasts g s) x
 
 -- ── what may be brought to member m ──
+-- something done, with its keys
+abbrev pub deed : Action → List ℕ → Act
+deed what keys = record { what = what; keys = keys }
+
 -- a PrepareReply as it arrives (`received`)
 abbrev pub replyOf : Promised → List ℕ → Reply
 replyOf p keys =
@@ -89,14 +93,14 @@ replyOf p keys =
 pub record ReplySent (g : Scene) (p : ℕ) (m : Reply) : Type 0 where
   pub told : Promised
   pub keys : List ℕ
-  pub sent : act (PrepareReply told) keys ∈ g .did p
+  pub sent : deed (PrepareReply told) keys ∈ g .did p
   pub is : m ≡ replyOf told keys
 
 abbrev pub Brought : Scene → ℕ → Call → Type 0
 Brought g m (callPrepareReply p q) = ReplySent g p q
 Brought g m (callAccept p s b e) = acceptSent s b e ∈ g .did p
-Brought g m (callAcceptReply p s b) = (a : Accepted) × (keys : List ℕ) × (act (AcceptReply a) keys ∈ g .did p) × (a .slot ≡ s) × (a .ballot ≡ b)
-Brought g m (callCommitNotice p b bar) = (a : Notice) × (keys : List ℕ) × (act (CommitNotice a) keys ∈ g .did p) × (a .ballot ≡ b) × (a .bar ≡ bar)
+Brought g m (callAcceptReply p s b) = (a : Accepted) × (keys : List ℕ) × (deed (AcceptReply a) keys ∈ g .did p) × (a .slot ≡ s) × (a .ballot ≡ b)
+Brought g m (callCommitNotice p b bar) = (a : Notice) × (keys : List ℕ) × (deed (CommitNotice a) keys ∈ g .did p) × (a .ballot ≡ b) × (a .bar ≡ bar)
 Brought g m (callLogged d) = EntryIn (g .log m) (d .entry) (d .slot) (d .ballot)
 Brought g m (callPrepare p trigger ballot) = Unit {0}
 Brought g m (callTimeout source) = Unit {0}
@@ -105,7 +109,7 @@ Brought g m (callExecuted slot) = Unit {0}
 Brought g m (callOpenRead id count keys) = Unit {0}
 Brought g m (callReadReply peer id fromLeader reply) = Unit {0}
 
-pub received-brought : (g : Scene) (m from : ℕ) (a : Action) (keys : List ℕ) (c : Call) → act a keys ∈ g .did from → c ∈ received from (act a keys) → Brought g m c
+pub received-brought : (g : Scene) (m from : ℕ) (a : Action) (keys : List ℕ) (c : Call) → deed a keys ∈ g .did from → c ∈ received from (deed a keys) → Brought g m c
 received-brought g m from (Prepare p) keys c h i = subst (Brought g m) (sym (List·Memᴰ·eq-of-singleton i)) tt
 received-brought g m from (PrepareReply p) keys c h i =
     subst (Brought g m) (sym (List·Memᴰ·eq-of-singleton i)) (record { told = p; keys = keys; sent = h; is = refl })
