@@ -30,7 +30,6 @@ use Rattle.window.specs.Places.{size, put-long, filled-long, sweep-long}
 use Rattle.replica.specs.declared.Replica.{Replica}
 use Rattle.replica.specs.declared.Done.{Done}
 use Rattle.replica.specs.Record.{Outcome, kept, summed, place, number}
-use Rattle.replica.specs.Fit.{sums}
 use Rattle.replica.specs.Messages.{prepareBook, prepareStep, orKept, cleanReply, prepareReplyStep, acceptStep, acceptReplyStep}
 use Rattle.replica.specs.Leadership.{timeoutStep, commitNoticeStep}
 use Rattle.replica.specs.Durability.{movedAccept, passStop, loggedStep}

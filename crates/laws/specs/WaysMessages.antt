@@ -1,5 +1,5 @@
 -- The ways that a Prepare, an Accept and an AcceptReply go: each leaves the replica as it was, or acts under facts that are listed here.
-use mathlib.Core.Path.{_≡_, refl, sym, ap, subst}
+use mathlib.Core.Path.{_≡_, refl, sym, subst}
 use mathlib.Core.Bool.{Bool, true, false, not, _&&_, _||_}
 use mathlib.Core.Logic.{_⊎_, inl, inr}
 use mathlib.Core.List.{[], _∷_, _++_}

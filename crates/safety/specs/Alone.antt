@@ -2,7 +2,7 @@
 -- `Local`; no group, no network, and no more of a call than its frame.
 use mathlib.Core.Path.{_≡_, refl, sym, ap, subst, _∙_}
 use mathlib.Core.Bool.{true, false}
-use mathlib.Core.List.{List, [], _++_, List·Memᴰ·not-nil, List·Memᴰ·append-cases, Memᴰ·append-left, Memᴰ·append-right}
+use mathlib.Core.List.{List, _++_, List·Memᴰ·append-cases, Memᴰ·append-left, Memᴰ·append-right}
 use mathlib.Core.Logic.{_⊎_, inl, inr}
 use Prim.Native.Nat.{ℕ, _≤_, _<_}
 use native.Mathlib.Omega.{arith}
@@ -10,13 +10,11 @@ use lib.Dec.{ltb}
 use borrow.Author.Tests.{ltb-true, ltb-false}
 use Rattle.base.specs.Pick.{decide, clash}
 use Rattle.base.specs.Among.{_∈_, all-in}
-use Rattle.batch.specs.declared.Batch.{Batch}
 use Rattle.actions.specs.declared.Notice.{Notice}
 use Rattle.actions.specs.declared.Action.the-variants.{CommitNotice}
 use Rattle.actions.specs.Actions.{Act}
 use Rattle.slots.specs.declared.Vote.{Vote}
 use Rattle.slots.specs.declared.Slot.{Slot}
-use Rattle.slots.specs.Slots.{nullSlot}
 use Rattle.window.specs.Acts.{promise}
 use Rattle.replica.specs.declared.Entry.{Entry}
 use Rattle.replica.specs.declared.Entry.the-variants.{PrepareBal as PrepareEntry, AcceptData as AcceptEntry, CommitSlot as CommitEntry}
@@ -26,7 +24,7 @@ use Rattle.voting.specs.StrictVotes.{entryOf}
 use Rattle.agreement.specs.ForGood.{EntryIn}
 use Rattle.agreement.specs.Frame.{Owns, Clean, Wrote, ActOk}
 use Rattle.agreement.specs.Local.{Local, local-step, new}
-use Rattle.safety.specs.Sight.{Sight, plain, Fine, Ends, Promises, Notices, Says, Rose, GoesOn, Lead, rose, on, Strict}
+use Rattle.safety.specs.Sight.{Sight, plain, Fine, Ends, Promises, Notices, Says, GoesOn, Lead, rose, on, Strict}
 use Rattle.safety.specs.Scene.{promises, PromisedIn, deed}
 
 -- no vote in slot k below b stands in the log l

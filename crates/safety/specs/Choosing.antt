@@ -1,34 +1,28 @@
 -- 2.2 in the group: each proposal obeys P2c; a slot that is marked is one that a majority accepted for good, and what a leader's bar or notice has passed too.
-use mathlib.Core.Path.{_≡_, refl, sym, ap, subst, _∙_}
+use mathlib.Core.Path.{_≡_, sym, subst, _∙_}
 use mathlib.Core.Bool.{Bool, true, false}
-use mathlib.Core.List.{List, List·Memᴰ·not-nil}
+use mathlib.Core.List.{[]}
 use mathlib.Core.Logic.{_⊎_, inl, inr}
 use Prim.Native.Nat.{ℕ, _≤_, _<_}
 use native.Mathlib.Omega.{arith}
-use lib.Dec.{ltb}
-use borrow.Author.Tests.{ltb-true, ltb-false}
-use Rattle.base.specs.Pick.{decide, same?}
-use Rattle.base.specs.Among.{_∈_, all-in}
+use Rattle.base.specs.Pick.{clash}
+use Rattle.base.specs.Among.{_∈_}
 use Rattle.members.specs.Sets.{has}
 use Rattle.batch.specs.declared.Batch.{Batch}
-use Rattle.actions.specs.declared.Notice.{Notice}
-use Rattle.actions.specs.declared.Action.the-variants.{CommitNotice}
-use Rattle.actions.specs.Actions.{Act, act}
 use Rattle.slots.specs.declared.Vote.{Vote}
 use Rattle.slots.specs.declared.Slot.{Slot}
-use Rattle.replica.specs.Messages.{clean}
-use Rattle.replica.specs.Step.{Call, callAccept, callAcceptReply, callCommitNotice}
-use Rattle.voting.specs.Paper.{Majority, Chosen, AcceptedBelow}
-use Rattle.voting.specs.Core.{Obeys, Lawful, obeys-stays, chosen-fixes, chosen-stays}
+use Rattle.voting.specs.Paper.{Majority, AcceptedBelow}
+use Rattle.voting.specs.Core.{Obeys, Lawful, obeys-stays}
 use Rattle.voting.specs.StrictVotes.{entryOf}
 use Rattle.agreement.specs.Theorem.{acceptEntry}
 use Rattle.agreement.specs.Frame.{Owns, Why, led, told}
-use Rattle.safety.specs.Sight.{Sight, plain, notes, acks, highest, counted, Acked, acked-peer, acked-own, Marking, tallied, noticed, Marks, Notices, Says, Proposes, entered, offered, GoesOn, Lead, rose, on}
-use Rattle.safety.specs.Scene.{Scene, HasPromised, Voted, Lasts, Issued, NoneBelow, Fixed, Brought, completions, acted, each, old-did, new-did, did-cases, log-cases}
+use Rattle.safety.specs.Sight.{plain, notes, highest, counted, Proposes, entered, offered, GoesOn, Lead, rose, on}
+use Rattle.safety.specs.Scene.{Scene, HasPromised, Voted, Lasts, Issued, NoneBelow, Brought, completions, each, old-did, new-did, did-cases}
 use Rattle.safety.specs.Alone.{Alone}
+use Rattle.safety.specs.Lawfully.{voted-issued, lawful}
 use Rattle.safety.specs.Rows.{Stands}
 use Rattle.safety.specs.Growth.{issued-ext, grows, leading-ext}
-use Rattle.safety.specs.Moves.{Move, before, next, one, one′, me, member, wrote, ext}
+use Rattle.safety.specs.Moves.{Move, before, next, one, one′, me, member-of, wrote, ext}
 use Rattle.safety.specs.LeadingOn.{mid-noting, mid-counts}
 
 module _ {size : ℕ} {present : ℕ → Bool} {g : Scene} (t : Move size present g) where
@@ -37,7 +31,7 @@ module _ {size : ℕ} {present : ℕ → Bool} {g : Scene} (t : Move size presen
   from-why s x m (led o _ _ _) = (t .who, (let e = me t in omega arith), new-did g (t .who) (t .after) (t .acts) (completions (t .call)) m)
   from-why s x m (told p b c e o d) =
       let h = subst (Brought g (t .who)) c (t .brought) in
-      let (_, y, tidy) = t .sound .alone p (member t p h) .local .said s (x .ballot) b h in
+      let (_, y, tidy) = t .sound .alone p (member-of t p h) .local .said s (x .ballot) b h in
       (p, o, old-did g (t .who) (t .after) (t .acts) (completions (t .call)) p (subst (λ (v : Batch). acceptEntry s (x .ballot) v ∈ g .did p) (sym (e ∙ tidy)) y))
 
   pub from-step : (m s : ℕ) (x : Vote) → entryOf s x ∈ next t .did m → Issued (next t) s x
@@ -47,22 +41,22 @@ module _ {size : ℕ} {present : ℕ → Bool} {g : Scene} (t : Move size presen
       go (inl y) = issued-ext (ext t) s x (t .sound .from m s x y)
       go (inr (_, y)) = from-why s x y (wrote t s x y .why)
 
+  -- ── the scene after the call: each member alone, and what it votes for ──
+  pub alone-next : (m : ℕ) → present m ≡ true → Alone m (next t .sight m) (next t .did m) (next t .log m) (next t .reported m)
+  alone-next m =
+      each g (t .who) (t .after) (t .acts) (completions (t .call)) (λ j v h l r. present j ≡ true → Alone j v h l r) m (λ _. t .sound .alone m) (λ _. one′ t)
+
+  pub nothing-next : (m : ℕ) → present m ≡ false → (next t .did m ≡ []) × (next t .log m ≡ [])
+  nothing-next m =
+      each g (t .who) (t .after) (t .acts) (completions (t .call)) (λ j v h l r. present j ≡ false → (h ≡ []) × (l ≡ [])) m (λ _. t .sound .nothing m) (λ p. absurd (clash (t .is) p))
+
+  pub votes-issued : (s m : ℕ) (x : Vote) → Voted (next t) s m x → Issued (next t) s x
+  votes-issued = voted-issued present (next t) alone-next nothing-next from-step
+
   -- ── P2c ──
   -- an issued proposal has a number above 0
   positive : (s : ℕ) (x : Vote) → Issued (next t) s x → 0 < x .ballot
   positive s x (p, o, m) = omega arith
-
-  -- a vote that stands is of a proposal that was issued
-  pub voted-issued : (s m : ℕ) (x : Vote) → Voted (next t) s m x → Issued (next t) s x
-  voted-issued s m x a = from-step m s x (go (log-cases g (t .who) (t .after) (t .acts) (completions (t .call)) m a))
-    where
-      old : entryOf s x ∈ g .log m → (present m ≡ true) ⊎ (present m ≡ false) → entryOf s x ∈ next t .did m
-      old y (inl p) = old-did g (t .who) (t .after) (t .acts) (completions (t .call)) m (t .sound .alone m p .local .stands y)
-      old y (inr p) = absurd (List·Memᴰ·not-nil (subst (λ (l : List Act). entryOf s x ∈ l) (t .sound .nothing m p .1) y))
-
-      go : (entryOf s x ∈ g .log m) ⊎ ((m ≡ t .who) × (entryOf s x ∈ t .acts)) → entryOf s x ∈ next t .did m
-      go (inl y) = old y (decide (present m))
-      go (inr (e, y)) = subst (λ (j : ℕ). entryOf s x ∈ next t .did j) (sym e) (new-did g (t .who) (t .after) (t .acts) (completions (t .call)) y)
 
   -- a slot that was Preparing as the quorum was counted, or is offered past the log end: the members that stand behind the lead are S
   module _ (mid : ℕ → Slot) (f : GoesOn (before t) (t .call) (t .after) mid (t .acts)) (s : ℕ) (x : Vote) (at : x .ballot ≡ before t .sent) where
@@ -89,7 +83,7 @@ module _ {size : ℕ} {present : ℕ → Bool} {g : Scene} (t : Move size presen
             go (inr n) = let z = n y a in absurd (omega arith)
 
         none : highest (mid s) ≡ 0 → (y : Vote) → AcceptedBelow (Voted (next t) s) set (x .ballot) y → ⊥
-        none z y ((p, h, a), u) = let w = under y ((p, h, a), u) in let v = positive s y (voted-issued s p y a) in omega arith
+        none z y ((p, h, a), u) = let w = under y ((p, h, a), u) in let v = positive s y (votes-issued s p y a) in omega arith
 
         value : (highest (mid s) ≡ 0) ⊎ ((highest (mid s) < before t .sent) × Issued (next t) s (record { ballot = highest (mid s); batch = mid s .batch }))
             → ((y : Vote) → AcceptedBelow (Voted (next t) s) set (x .ballot) y → ⊥) ⊎
@@ -127,24 +121,6 @@ module _ {size : ℕ} {present : ℕ → Bool} {g : Scene} (t : Move size presen
       go (inl y) = obeys-stays (grows (ext t) s) x (t .sound .obeys s x (p, o, y))
       go (inr (e, y)) = obeys-new s x y (subst (λ (j : ℕ). Owns j (x .ballot)) e o)
 
-  -- ── so the paper's argument holds of the scene after the call ──
-  pub alone-next : (m : ℕ) → present m ≡ true → Alone m (next t .sight m) (next t .did m) (next t .log m) (next t .reported m)
-  alone-next m =
-      each g (t .who) (t .after) (t .acts) (completions (t .call)) (λ j v h l r. present j ≡ true → Alone j v h l r) m (λ _. t .sound .alone m) (λ _. one′ t)
-
-  member-next : (p : ℕ) {a : Act} → a ∈ next t .did p → present p ≡ true
-  member-next p {a} m = go (did-cases g (t .who) (t .after) (t .acts) (completions (t .call)) p m)
-    where
-      go : (a ∈ g .did p) ⊎ ((p ≡ t .who) × (a ∈ t .acts)) → present p ≡ true
-      go (inl y) = member t p y
-      go (inr (e, _)) = subst (λ (j : ℕ). present j ≡ true) (sym e) (t .is)
-
-  -- "different proposals have different numbers"
-  one-issued : (s : ℕ) (x y : Vote) → Issued (next t) s x → Issued (next t) s y → x .ballot ≡ y .ballot → x .batch ≡ y .batch
-  one-issued s x y (p, o, m) (p′, o′, m′) e =
-      let w : p′ ≡ p = omega arith in
-      alone-next p (member-next p m) .local .one s (x .ballot) (x .batch) (y .batch) m
-      (subst (λ (j : ℕ). acceptEntry s (x .ballot) (y .batch) ∈ next t .did j) w (subst (λ (b : ℕ). acceptEntry s b (y .batch) ∈ next t .did p′) (sym e) m′)) o
-
-  pub lawful : (s : ℕ) → Lawful size (HasPromised (next t)) (Lasts (next t) s) (Voted (next t) s) (Issued (next t) s)
-  lawful s = record { standing = λ m x y. y .0; told = voted-issued s; one = one-issued s; obeys = obeys-step s }
+  -- so the paper's argument holds of the scene after the call
+  pub lawful-next : (s : ℕ) → Lawful size (HasPromised (next t)) (Lasts (next t) s) (Voted (next t) s) (Issued (next t) s)
+  lawful-next s = lawful present (next t) alone-next nothing-next from-step size s (obeys-step s)

@@ -1,6 +1,6 @@
 -- As a group goes on: completions are reported and things done, a vote that lasts stays, and a vote that stands now stood before or is not below what its
 -- member promised. What was told, promised and chosen stays so; a step of another member needs no more than this.
-use mathlib.Core.Path.{_≡_, subst}
+use mathlib.Core.Path.{_≡_}
 use mathlib.Core.Bool.{true}
 use mathlib.Core.Logic.{_⊎_, inl, inr}
 use Prim.Native.Nat.{ℕ, _≤_, _<_}

@@ -1,5 +1,5 @@
 -- Rule (c) in the group: what a leader has noted and counted is so, as a reply was heard (`mid`) and after the call.
-use mathlib.Core.Path.{_≡_, refl, sym, ap, subst, _∙_}
+use mathlib.Core.Path.{_≡_, sym, ap, subst, _∙_}
 use mathlib.Core.Bool.{Bool, true, false}
 use mathlib.Core.Logic.{_⊎_, inl, inr}
 use Prim.Native.Nat.{ℕ, _≤_, _<_}
@@ -16,7 +16,7 @@ use Rattle.slots.specs.declared.Slot.{Slot}
 use Rattle.voting.specs.Paper.{Majority}
 use Rattle.voting.specs.StrictVotes.{entryOf}
 use Rattle.agreement.specs.Frame.{Owns}
-use Rattle.safety.specs.Sight.{Sight, notes, highest, counted, Noted, still, heard, Counts, GoesOn, Rose, Lead, rose, on}
+use Rattle.safety.specs.Sight.{notes, highest, counted, Noted, still, heard, Counts, GoesOn, Rose, Lead, rose, on}
 use Rattle.safety.specs.Scene.{Scene, HasPromised, Voted, Issued, NoneBelow}
 use Rattle.safety.specs.Rows.{Noting, Stands, Leading}
 use Rattle.safety.specs.Growth.{issued-ext, leading-ext}

@@ -1,5 +1,5 @@
 -- What is committed is chosen: a slot that a leader marks by a majority of acknowledgements, one that a CommitNotice marks, and what stays committed.
-use mathlib.Core.Path.{_≡_, refl, sym, ap, subst, _∙_}
+use mathlib.Core.Path.{_≡_, refl, sym, subst, _∙_}
 use mathlib.Core.Bool.{Bool, true, false}
 use mathlib.Core.List.{List, _++_, Memᴰ·append-left, Memᴰ·append-right}
 use mathlib.Core.Logic.{_⊎_, inl, inr}
@@ -15,17 +15,16 @@ use Rattle.actions.specs.declared.Notice.{Notice}
 use Rattle.actions.specs.declared.Action.the-variants.{CommitNotice}
 use Rattle.actions.specs.Actions.{Act}
 use Rattle.slots.specs.declared.Vote.{Vote}
-use Rattle.slots.specs.declared.Slot.{Slot}
 use Rattle.voting.specs.Paper.{Majority}
 use Rattle.voting.specs.StrictVotes.{entryOf}
 use Rattle.agreement.specs.Theorem.{acceptEntry}
 use Rattle.agreement.specs.Frame.{Owns}
-use Rattle.safety.specs.Sight.{acks, Acked, acked-peer, acked-own, Marking, tallied, noticed, Marks, Notices, Says, Proposes, entered, offered, GoesOn, Lead, rose, on}
+use Rattle.safety.specs.Sight.{acks, Acked, acked-peer, acked-own, Marking, tallied, noticed, Marks, Notices, Says, Proposes, entered, offered, Lead, rose, on}
 use Rattle.safety.specs.Scene.{Scene, Lasts, Issued, Fixed, Brought, completions, old-did, did-cases, deed}
 use Rattle.safety.specs.Growth.{fixed-ext}
 use Rattle.safety.specs.Moves.{Move, before, next, one, one′, me, wrote, ext}
 use Rattle.safety.specs.Telling.{lasts-now}
-use Rattle.safety.specs.Choosing.{from-step, voted-issued, lawful}
+use Rattle.safety.specs.Choosing.{from-step, votes-issued, lawful-next}
 
 module _ {size : ℕ} {present : ℕ → Bool} {g : Scene} (t : Move size present g) where
   -- ── who acknowledged a slot at the ballot of the lead has a vote there that lasts ──
@@ -67,7 +66,7 @@ module _ {size : ℕ} {present : ℕ → Bool} {g : Scene} (t : Move size presen
       -- a vote that lasts at the slot's ballot is for its batch
       same : (p : ℕ) → LastsAt s (t .after .slot s .ballot) p → Lasts (next t) s p (held s)
       same p (x, e, y) =
-          let b = lawful t s .one x (held s) (voted-issued t s p x (y .0)) (issued-held s k) e in
+          let b = lawful-next t s .one x (held s) (votes-issued t s p x (y .0)) (issued-held s k) e in
           subst (Lasts (next t) s p) (λ i. record { ballot = e i; batch = b i }) y
 
       go : Marking (before t) (t .call) (t .after) s (before t .slot s) (t .after .slot s) → Fixed size (next t) s (t .after .slot s .ballot) (t .after .slot s .batch)
@@ -95,14 +94,6 @@ module _ {size : ℕ} {present : ℕ → Bool} {g : Scene} (t : Move size presen
           fixed-ext (ext t) size s _ _ _ (t .frame .slot s .up) (subst (Fixed size g s (before t .slot s .ballot)) (sym q) (t .sound .done (t .who) (t .is) s (ltb-false _ _ e)))
 
   -- ── what commit_bar has passed ──
-  -- a slot below it was committed before the call
-  committed-below : (s : ℕ) → before t .start ≤ s → s < t .after .bar → 3 ≤ before t .slot s .status
-  committed-below s a b = go (decide (ltb s (before t .bar)))
-    where
-      go : (ltb s (before t .bar) ≡ true) ⊎ (ltb s (before t .bar) ≡ false) → 3 ≤ before t .slot s .status
-      go (inl e) = one t .barred s a (ltb-true _ _ e)
-      go (inr e) = t .frame .bars .passes s (ltb-false _ _ e) b
-
   in-did : {a : Act} → a ∈ next t .did (t .who) → a ∈ (g .did (t .who) ++ t .acts)
   in-did {a} m = go (did-cases g (t .who) (t .after) (t .acts) (completions (t .call)) (t .who) m)
     where

@@ -21,6 +21,7 @@ pub mod Leads
 pub mod Frames
 pub mod Scene
 pub mod Alone
+pub mod Lawfully
 pub mod Rows
 pub mod Growth
 pub mod Moves
@@ -30,4 +31,5 @@ pub mod Choosing
 pub mod Learning
 pub mod Steps
 pub mod Proof
+pub mod Requirements
 pub mod FiveRun

@@ -1,24 +1,22 @@
 -- One call of a present member in a sound scene, any outcome that keeps to the strict frame; the scene after it, and that it only grew.
-use mathlib.Core.Path.{_≡_, refl, sym, subst, _∙_}
-use mathlib.Core.Bool.{Bool, true, false}
-use mathlib.Core.List.{List, _++_, List·Memᴰ·not-nil}
+use mathlib.Core.Path.{_≡_, subst}
+use mathlib.Core.Bool.{Bool, true}
+use mathlib.Core.List.{List, _++_}
 use mathlib.Core.Logic.{_⊎_, inl, inr}
 use Prim.Native.Nat.{ℕ, _≤_}
 use native.Mathlib.Omega.{arith}
-use Rattle.base.specs.Pick.{decide}
 use Rattle.base.specs.Among.{_∈_, all-in}
 use Rattle.actions.specs.Actions.{Act}
 use Rattle.slots.specs.declared.Vote.{Vote}
-use Rattle.window.specs.Acts.{promise}
 use Rattle.replica.specs.declared.Done.{Done}
 use Rattle.replica.specs.Step.{Call, callLogged}
 use Rattle.voting.specs.StrictVotes.{entryOf}
 use Rattle.agreement.specs.ForGood.{EntryIn}
-use Rattle.agreement.specs.Frame.{Owns, Wrote, ActOk}
-use Rattle.agreement.specs.Local.{new}
+use Rattle.agreement.specs.Frame.{Wrote, ActOk}
 use Rattle.safety.specs.Sight.{Sight, plain, Strict}
-use Rattle.safety.specs.Scene.{Scene, promises, HasPromised, Voted, Lasts, Issued, NoneBelow, Brought, completions, done-in, reported-in, acted, old-did, old-log, log-cases, old-reported, new-reported}
+use Rattle.safety.specs.Scene.{Scene, promises, HasPromised, Voted, NoneBelow, Brought, completions, done-in, reported-in, acted, old-did, old-log, log-cases, old-reported, new-reported}
 use Rattle.safety.specs.Alone.{Alone, NoneIn, alone-step}
+use Rattle.safety.specs.Lawfully.{member}
 use Rattle.safety.specs.Rows.{Sound}
 use Rattle.safety.specs.Growth.{Ext}
 
@@ -48,12 +46,8 @@ module _ {size : ℕ} {present : ℕ → Bool} {g : Scene} (t : Move size presen
   me = one .local .id
 
   -- only present members do anything
-  pub member : (p : ℕ) {x : Act} → x ∈ g .did p → present p ≡ true
-  member p {x} a = go (decide (present p))
-    where
-      go : (present p ≡ true) ⊎ (present p ≡ false) → present p ≡ true
-      go (inl e) = e
-      go (inr e) = absurd (List·Memᴰ·not-nil (subst (λ (l : List Act). x ∈ l) (t .sound .nothing p e .0) a))
+  pub member-of : (p : ℕ) {x : Act} → x ∈ g .did p → present p ≡ true
+  member-of p a = member present g (t .sound .alone) (t .sound .nothing) p a
 
   pub wrote : (s : ℕ) (x : Vote) → entryOf s x ∈ t .acts → Wrote (plain before) (t .call) (plain (t .after)) s (x .ballot) (x .batch)
   wrote s x m = all-in (ActOk (plain before) (t .call) (plain (t .after)) (t .acts)) (t .frame .frame .said) m .0

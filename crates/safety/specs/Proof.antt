@@ -1,23 +1,22 @@
 -- THE PROOF of 02, Wish 7 (agreement/specs/ForGood): every world that a group of strict members comes to is a sound scene, with whatever completions were
 -- reported; so each mark is of a batch that was chosen, and the paper's argument gives the rest.
 use mathlib.Core.Path.{_≡_, refl, sym, ap, subst, _∙_, fun-ext}
-use mathlib.Core.Bool.{Bool, true, false, not, _&&_}
+use mathlib.Core.Bool.{Bool, true}
 use mathlib.Core.List.{List, [], _++_, append-nil, List·Memᴰ·not-nil}
 use mathlib.Core.Logic.{_⊎_, inl, inr}
 use Prim.Native.Nat.{ℕ, _+_, _≤_, _<_}
 use native.Mathlib.Omega.{arith}
-use lib.Dec.{ltb, leb, eqb}
+use lib.Dec.{ltb, leb}
 use borrow.Author.Tests.{ltb-true, leb-true, not-true}
-use Rattle.base.specs.Pick.{pick-cases, decide, same?, clash, and-both}
+use Rattle.base.specs.Pick.{pick-cases, same?, clash, and-both}
 use Rattle.base.specs.Gather.{all-gather}
 use Rattle.base.specs.Among.{_∈_, All, all-in, all-append, all-map}
 use Rattle.members.specs.Groups.{groupSize}
 use Rattle.members.specs.Laws.{group-bounds}
 use Rattle.batch.specs.declared.Batch.{Batch}
-use Rattle.batch.specs.Batches.{sameBatch, keyList}
+use Rattle.batch.specs.Batches.{keyList}
 use Rattle.batch.specs.Laws.{is-same}
 use Rattle.actions.specs.Actions.{Act}
-use Rattle.slots.specs.declared.Vote.{Vote}
 use Rattle.slots.specs.declared.Slot.{Slot}
 use Rattle.slots.specs.Slots.{nullSlot, committed}
 use Rattle.decide.specs.Scalars.{strict, mayBe}
@@ -30,23 +29,23 @@ use Rattle.replica.specs.declared.Done.{Done}
 use Rattle.replica.specs.declared.Made.{Made}
 use Rattle.replica.specs.Record.{Outcome, newReplica, fresh, zeroReplica, logEnd, place}
 use Rattle.replica.specs.Messages.{clean}
-use Rattle.replica.specs.Step.{Call, callAccept, step}
-use Rattle.laws.specs.Theorems.{refusals-keep, refusals-silent, group-stays}
+use Rattle.replica.specs.Step.{Call, step}
+use Rattle.laws.specs.Theorems.{refusals-keep, refusals-silent}
 use Rattle.laws.specs.WaysMessages.{acceptWindow}
 use Rattle.laws.specs.Fifteen.{Other, fifteen-why}
 use Rattle.voting.specs.Core.{Lawful, chosen-fixes, chosen-agree}
-use Rattle.voting.specs.StrictVotes.{entryOf}
-use Rattle.agreement.specs.Theorem.{Group, Mark, World, slotOf, rises, markAt, marksOf, upd, put, begin, acceptEntry}
-use Rattle.agreement.specs.ForGood.{Happens, timer-fires, batch-comes, entry-done, batch-executed, read-opened, read-replied, message-comes, Event, real, turned-away, Comes, starts, goes, ForGood, OneSlotOneBatch}
+use Rattle.agreement.specs.Theorem.{Group, Mark, World, slotOf, rises, markAt, marksOf, upd, put, begin}
+use Rattle.agreement.specs.ForGood.{Happens, timer-fires, batch-comes, entry-done, batch-executed, read-opened, read-replied, message-comes, real, turned-away, Comes, starts, goes, OneSlotOneBatch}
 use Rattle.agreement.specs.Local.{acceptSent}
 use Rattle.agreement.specs.Group.{upd-same, upd-other, each as each-member, inv-start, made-fresh}
-use Rattle.safety.specs.Sight.{Sight, sightOf, Strict, Able}
+use Rattle.safety.specs.Sight.{sightOf, Able}
 use Rattle.safety.specs.Able.{able-step, able-new, fine-of, every-slot, numbered-place}
 use Rattle.safety.specs.Frames.{keeps-to}
 use Rattle.safety.specs.Scene.{Scene, HasPromised, Voted, Lasts, Issued, Fixed, Brought, received-brought, completions, acted}
 use Rattle.safety.specs.Alone.{Alone}
+use Rattle.safety.specs.Lawfully.{member, lawful}
 use Rattle.safety.specs.Rows.{Sound}
-use Rattle.safety.specs.Growth.{Ext, fixed-ext}
+use Rattle.safety.specs.Growth.{fixed-ext}
 use Rattle.safety.specs.Moves.{Move, next, ext}
 use Rattle.safety.specs.Learning.{done-step}
 use Rattle.safety.specs.Steps.{sound-step}
@@ -173,7 +172,7 @@ module _ (g : Group) (kind : g .strict ≡ true) where
       }
 
   -- ── every world ──
-  abbrev MarkFixed : Scene → Mark → Type 0
+  abbrev pub MarkFixed : Scene → Mark → Type 0
   MarkFixed s k = Fixed (g .size) s (k .slot) (k .ballot) (k .batch)
 
   pub record SoundIn (w : World) (reported : ℕ → List Done) : Type 0 where
@@ -248,44 +247,24 @@ module _ (g : Group) (kind : g .strict ≡ true) where
 
 -- ── what follows in a sound scene ──
 module _ (size : ℕ) (few : size ≤ 9) (present : ℕ → Bool) (s : Scene) (i : Sound size present s) where
-  member : (p : ℕ) {a : Act} → a ∈ s .did p → present p ≡ true
-  member p {a} m = go (decide (present p))
-    where
-      go : (present p ≡ true) ⊎ (present p ≡ false) → present p ≡ true
-      go (inl e) = e
-      go (inr e) = absurd (List·Memᴰ·not-nil (subst (λ (l : List Act). a ∈ l) (i .nothing p e .0) m))
-
-  voted-issued : (k m : ℕ) (x : Vote) → Voted s k m x → Issued s k x
-  voted-issued k m x a = go (decide (present m))
-    where
-      go : (present m ≡ true) ⊎ (present m ≡ false) → Issued s k x
-      go (inl p) = i .from m k x (i .alone m p .local .stands a)
-      go (inr p) = absurd (List·Memᴰ·not-nil (subst (λ (l : List Act). entryOf k x ∈ l) (i .nothing m p .1) a))
-
-  one-issued : (k : ℕ) (x y : Vote) → Issued s k x → Issued s k y → x .ballot ≡ y .ballot → x .batch ≡ y .batch
-  one-issued k x y (p, o, m) (p′, o′, m′) e =
-      let w : p′ ≡ p = omega arith in
-      i .alone p (member p m) .local .one k (x .ballot) (x .batch) (y .batch) m
-      (subst (λ (j : ℕ). acceptEntry k (x .ballot) (y .batch) ∈ s .did j) w (subst (λ (b : ℕ). acceptEntry k b (y .batch) ∈ s .did p′) (sym e) m′)) o
-
-  lawful : (k : ℕ) → Lawful size (HasPromised s) (Lasts s k) (Voted s k) (Issued s k)
-  lawful k = record { standing = λ m x y. y .0; told = voted-issued k; one = one-issued k; obeys = i .obeys k }
+  law : (k : ℕ) → Lawful size (HasPromised s) (Lasts s k) (Voted s k) (Issued s k)
+  law k = lawful present s (i .alone) (i .nothing) (i .from) size k (i .obeys k)
 
   -- "Only a single value is chosen"
   pub fixed-same : (k b b′ : ℕ) (e e′ : Batch) → Fixed size s k b e → Fixed size s k b′ e′ → e ≡ e′
   fixed-same k b b′ e e′ (x, _, q, c) (x′, _, q′, c′) =
-      sym q ∙ chosen-agree size few (HasPromised s) (Lasts s k) (Voted s k) (Issued s k) (lawful k) x x′ c c′ ∙ q′
+      sym q ∙ chosen-agree size few (HasPromised s) (Lasts s k) (Voted s k) (Issued s k) (law k) x x′ c c′ ∙ q′
 
   -- an Accept that was sent for a slot that a member has committed, at no smaller ballot, names its batch
   pub accept-same : (m : ℕ) → present m ≡ true → (p k b : ℕ) (e : Batch) → acceptSent k b e ∈ s .did p → 3 ≤ s .sight m .slot k .status → s .sight m .slot k .ballot ≤ b
       → clean e ≡ s .sight m .slot k .batch
   accept-same m l p k b e h u v =
-      let (o, y, tidy) = i .alone p (member p h) .local .said k b e h in
+      let (o, y, tidy) = i .alone p (member present s (i .alone) (i .nothing) p h) .local .said k b e h in
       let (x, w, q, c) = i .done m l k u in
-      tidy ∙ chosen-fixes size few (HasPromised s) (Lasts s k) (Voted s k) (Issued s k) (lawful k) x c (record { ballot = b; batch = e }) (p, o, y) (omega arith) ∙ q
+      tidy ∙ chosen-fixes size few (HasPromised s) (Lasts s k) (Voted s k) (Issued s k) (law k) x c (record { ballot = b; batch = e }) (p, o, y) (omega arith) ∙ q
 
 -- ── the theorem ──
-group-few : (g : Group) (m : ℕ) → g .present m ≡ true → g .size ≤ 9
+pub group-few : (g : Group) (m : ℕ) → g .present m ≡ true → g .size ≤ 9
 unfolding newReplica
 group-few g m p =
     pick-cases (λ (z : Made). z .answer ≡ 0 → g .size ≤ 9) (mayBe m (g .size) (g .start) (g .options m))

@@ -7,12 +7,10 @@ use mathlib.Core.Logic.{_⊎_}
 use Prim.Native.Nat.{ℕ, _≤_, _<_}
 use Rattle.base.specs.Among.{_∈_}
 use Rattle.members.specs.Sets.{has}
-use Rattle.batch.specs.declared.Batch.{Batch}
 use Rattle.actions.specs.declared.Promised.{Promised}
 use Rattle.actions.specs.declared.Accepted.{Accepted}
 use Rattle.actions.specs.declared.Notice.{Notice}
 use Rattle.actions.specs.declared.Action.the-variants.{PrepareReply, AcceptReply, CommitNotice}
-use Rattle.actions.specs.Actions.{Act}
 use Rattle.slots.specs.declared.Vote.{Vote}
 use Rattle.slots.specs.declared.Slot.{Slot}
 use Rattle.voting.specs.Paper.{Majority}

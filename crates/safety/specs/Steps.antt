@@ -1,10 +1,8 @@
 -- A sound scene stays sound: whatever keeps to the strict frame, at a present member, with what the scene may bring it.
-use mathlib.Core.Path.{_≡_, _∙_, subst}
-use mathlib.Core.Bool.{Bool, true, false}
-use mathlib.Core.List.{List, []}
+use mathlib.Core.Path.{_≡_, _∙_}
+use mathlib.Core.Bool.{Bool, true}
 use Prim.Native.Nat.{ℕ, _≤_}
 use native.Mathlib.Omega.{arith}
-use Rattle.base.specs.Pick.{clash}
 use Rattle.members.specs.Sets.{has}
 use Rattle.slots.specs.declared.Vote.{Vote}
 use Rattle.safety.specs.Sight.{acks}
@@ -14,7 +12,7 @@ use Rattle.safety.specs.Growth.{leading-ext, fixed-ext}
 use Rattle.safety.specs.Moves.{Move, next, ext}
 use Rattle.safety.specs.Telling.{told-step, took-step}
 use Rattle.safety.specs.LeadingOn.{lead-step}
-use Rattle.safety.specs.Choosing.{from-step, obeys-step, alone-next}
+use Rattle.safety.specs.Choosing.{from-step, obeys-step, alone-next, nothing-next}
 use Rattle.safety.specs.Learning.{acked-step, done-step, notice-step}
 
 module _ {size : ℕ} {present : ℕ → Bool} {g : Scene} (t : Move size present g) where
@@ -22,10 +20,6 @@ module _ {size : ℕ} {present : ℕ → Bool} {g : Scene} (t : Move size presen
   sized-step m =
       each g (t .who) (t .after) (t .acts) (completions (t .call)) (λ j v h l r. present j ≡ true → v .group ≡ size) m (λ _. t .sound .sized m)
       (λ p. t .frame .group ∙ t .sound .sized (t .who) p)
-
-  nothing-step : (m : ℕ) → present m ≡ false → (next t .did m ≡ []) × (next t .log m ≡ [])
-  nothing-step m =
-      each g (t .who) (t .after) (t .acts) (completions (t .call)) (λ j v h l r. present j ≡ false → (h ≡ []) × (l ≡ [])) m (λ _. t .sound .nothing m) (λ p. absurd (clash (t .is) p))
 
   leads-step : (m : ℕ) → present m ≡ true → next t .sight m .leading ≡ true → Leading (next t) (next t .sight m)
   leads-step m =
@@ -50,7 +44,7 @@ module _ {size : ℕ} {present : ℕ → Bool} {g : Scene} (t : Move size presen
       record {
         alone = alone-next t;
         sized = sized-step;
-        nothing = nothing-step;
+        nothing = nothing-next t;
         from = from-step t;
         told = told-step t;
         took = took-step t;

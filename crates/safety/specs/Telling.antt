@@ -1,13 +1,13 @@
 -- Rule (a) in the group: what a PrepareReply says of its sender is so, and an AcceptReply tells of a vote that lasts; also what a leader tells itself.
 use mathlib.Core.Path.{_≡_, refl, sym, ap, subst, _∙_}
-use mathlib.Core.Bool.{Bool, true, false}
+use mathlib.Core.Bool.{Bool, true}
 use mathlib.Core.List.{List}
 use mathlib.Core.Logic.{_⊎_, inl, inr}
 use Prim.Native.Nat.{ℕ, _≤_, _<_}
 use native.Mathlib.Omega.{arith}
 use lib.Dec.{ltb}
 use borrow.Author.Tests.{ltb-true, ltb-false}
-use Rattle.base.specs.Pick.{pick, pick-cases}
+use Rattle.base.specs.Pick.{pick-cases}
 use Rattle.base.specs.Among.{_∈_, all-in}
 use Rattle.batch.specs.declared.Batch.{Batch}
 use Rattle.actions.specs.declared.Promised.{Promised}
@@ -22,18 +22,17 @@ use Rattle.decide.specs.Decide.{sentVote}
 use Rattle.window.specs.Acts.{promise}
 use Rattle.replica.specs.declared.Entry.the-variants.{PrepareBal as PrepareEntry, AcceptData as AcceptEntry}
 use Rattle.replica.specs.Messages.{clean}
-use Rattle.replica.specs.Step.{Call, callPrepareReply, callLogged}
+use Rattle.replica.specs.Step.{callLogged}
 use Rattle.laws.specs.WaysDurability.{completion}
 use Rattle.voting.specs.StrictVotes.{entryOf}
-use Rattle.agreement.specs.Theorem.{acceptEntry}
 use Rattle.agreement.specs.Frame.{Owns, Clean}
 use Rattle.agreement.specs.StrictTells.{toldVote}
-use Rattle.safety.specs.Sight.{Sight, heardVote, Replied, replied-peer, replied-own, Answers, Says}
-use Rattle.safety.specs.Scene.{Scene, Voted, Lasts, Issued, NoneBelow, ReplySent, replyOf, Brought, completions, done-in, new-reported, did-cases, old-log, deed}
+use Rattle.safety.specs.Sight.{heardVote, Replied, replied-peer, replied-own, Answers, Says}
+use Rattle.safety.specs.Scene.{Scene, Lasts, Issued, NoneBelow, ReplySent, replyOf, Brought, completions, done-in, new-reported, did-cases, old-log, deed}
 use Rattle.safety.specs.Alone.{NoneIn}
 use Rattle.safety.specs.Rows.{Tells, Told}
 use Rattle.safety.specs.Growth.{told-ext, tells-ext, none-ext, issued-ext}
-use Rattle.safety.specs.Moves.{Move, before, next, one, me, member, ext, promised-now, own-below, own-none}
+use Rattle.safety.specs.Moves.{Move, before, next, one, me, member-of, ext, promised-now, own-below, own-none}
 
 module _ {size : ℕ} {present : ℕ → Bool} {g : Scene} (t : Move size present g) where
   -- what a slot sends is its vote, and none where that is none
@@ -117,7 +116,7 @@ module _ {size : ℕ} {present : ℕ → Bool} {g : Scene} (t : Move size presen
   -- what was issued has a clean batch
   clean-issued : (s : ℕ) (v : Vote) → (v .ballot ≡ 0) ⊎ Issued g s v → (v .ballot ≡ 0) ⊎ Clean (v .batch)
   clean-issued s v (inl z) = inl z
-  clean-issued s v (inr (p, o, m)) = inr (t .sound .alone p (member t p m) .tidy s v m .0)
+  clean-issued s v (inr (p, o, m)) = inr (t .sound .alone p (member-of t p m) .tidy s v m .0)
 
   tells-none : (p s b : ℕ) (v : Vote) → v .ballot ≡ 0 → Tells g p s b v → Tells g p s b noVote
   tells-none p s b v z y = record { promised = y .promised; under = λ x a l. (let q = y .under x a l in omega arith); low = omega arith; value = inl refl }

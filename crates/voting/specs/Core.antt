@@ -1,7 +1,7 @@
 -- 2.2, the paper's own argument, over votes and numbers alone, for one slot: where each proposal that is issued obeys P2c, only a single value is chosen.
 -- P2c is read as it can be kept up while votes are cast: the majority S has promised the number, so that what its members accept later is not below it, and
 -- of case (b) it is enough that the highest-numbered proposal was issued: a member outside S may have told of it. `p2c-obeys`: P2c itself is a case of it.
-use mathlib.Core.Path.{_≡_, sym, _∙_, subst}
+use mathlib.Core.Path.{_≡_, sym, _∙_}
 use mathlib.Core.Bool.{true, false}
 use mathlib.Core.Logic.{_⊎_, inl, inr}
 use Prim.Native.Nat.{ℕ, zero, suc, _≤_, _<_}

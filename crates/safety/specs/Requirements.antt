@@ -1,0 +1,60 @@
+-- What "Paxos Made Simple" requires of voting, 2.1, and what it gets it by, 2.2, of every world that a group of strict members comes to: of any slot, a batch
+-- being accepted where its accept entry is written, and learned where a slot is marked. That only a proposed batch is chosen is `only-proposed` (agreement).
+use mathlib.Core.Path.{_≡_}
+use mathlib.Core.Bool.{true}
+use mathlib.Core.List.{List}
+use Prim.Native.Nat.{ℕ}
+use native.Mathlib.Omega.{arith}
+use Rattle.base.specs.Among.{all-in}
+use Rattle.slots.specs.declared.Vote.{Vote}
+use Rattle.replica.specs.declared.Done.{Done}
+use Rattle.voting.specs.Paper.{OnlyOne, OnlyChosenLearned, P2}
+use Rattle.voting.specs.Core.{Lawful, Obeys, chosen-fixes, chosen-agree, chosen-issued}
+use Rattle.agreement.specs.Theorem.{Group, World}
+use Rattle.agreement.specs.ForGood.{Comes}
+use Rattle.agreement.specs.Worlds.{accepted, issued, learned}
+use Rattle.safety.specs.Scene.{Scene, HasPromised, Issued}
+use Rattle.safety.specs.Lawfully.{member, lawful}
+use Rattle.safety.specs.Proof.{sceneOf, group-few, SoundIn, MarkFixed, sound-in}
+
+module _ (g : Group) (kind : g .strict ≡ true) (w : World) (r : Comes g w) where
+  -- with whatever completions were reported
+  abbrev pub reported : ℕ → List Done
+  reported = sound-in g kind w r .0
+
+  abbrev pub scene : Scene
+  scene = sceneOf w reported
+
+  sound : SoundIn g kind w reported
+  sound = sound-in g kind w r .1
+
+  -- of all that was written, whether or not it was reported durable
+  law : (s : ℕ) → Lawful (g .size) (HasPromised scene) (accepted w s) (accepted w s) (Issued scene s)
+  law s =
+      let l = lawful (g .present) scene (sound .sound .alone) (sound .sound .nothing) (sound .sound .from) (g .size) s (sound .sound .obeys s) in
+      record { standing = λ m x y. y; told = l .told; one = l .one; obeys = l .obeys }
+
+  -- 2.1: "A process never learns that a value has been chosen unless it actually has been"
+  pub only-chosen-learned : (s : ℕ) → OnlyChosenLearned (g .size) (accepted w s) (learned w s)
+  only-chosen-learned s m b (ballot, i) =
+      let (x, _, q, (set, j, h)) = all-in (MarkFixed g kind scene) (sound .marks) i in
+      (x, (set, j, λ p a. h p a .0), q)
+
+  -- 2.2, P2c: each proposal for which an Accept was sent obeys it (`Obeys`)
+  pub proposals-obey : (s : ℕ) (v : Vote) → issued w s v → Obeys (g .size) (HasPromised scene) (accepted w s) (Issued scene s) v
+  proposals-obey s v (p, i) =
+      let (o, y, _) = sound .sound .alone p (member (g .present) scene (sound .sound .alone) (sound .sound .nothing) p i) .local .said s (v .ballot) (v .batch) i in
+      sound .sound .obeys s v (p, o, y)
+
+  -- of a group that has a member
+  module _ (m : ℕ) (p : g .present m ≡ true) where
+    -- 2.1: "Only a single value is chosen"
+    pub only-one : (s : ℕ) → OnlyOne (g .size) (accepted w s)
+    only-one s = chosen-agree (g .size) (group-few g m p) (HasPromised scene) (accepted w s) (accepted w s) (Issued scene s) (law s)
+
+    -- 2.2, P2
+    pub higher-same : (s : ℕ) → P2 (g .size) (accepted w s)
+    higher-same s v v′ c c′ l =
+        let few = group-few g m p in
+        chosen-fixes (g .size) few (HasPromised scene) (accepted w s) (accepted w s) (Issued scene s) (law s) v c v′
+        (chosen-issued (g .size) few (HasPromised scene) (accepted w s) (accepted w s) (Issued scene s) (law s) v′ c′) (omega arith)
