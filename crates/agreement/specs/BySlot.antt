@@ -1,8 +1,8 @@
 -- A log seen by slot number: one accessor, null wherever the log has no slot.
-use mathlib.Core.Path.{_≡_}
+use mathlib.Core.Path.{_≡_, subst}
 use mathlib.Core.Bool.{true, false}
 use mathlib.Core.Logic.{_⊎_, inl, inr}
-use Prim.Native.Nat.{ℕ, _+_, _-_}
+use Prim.Native.Nat.{ℕ, _+_, _-_, _≤_}
 use native.Mathlib.Omega.{arith}
 use lib.Dec.{ltb}
 use borrow.Author.Tests.{le-ltb}
@@ -20,6 +20,11 @@ numbered start w s = pick (ltb s start) nullSlot (atPlace w (s - start))
 pub numbered-at : (start : ℕ) (w : Window) (i : ℕ) → numbered start w (start + i) ≡ atPlace w i
 unfolding numbered
 numbered-at start w i = let e : start + i - start ≡ i = omega arith in rw (le-ltb (start + i) start (omega arith), e)
+
+-- the slot at a number that is not below the start
+pub numbered-place : (start : ℕ) (w : Window) (s : ℕ) → start ≤ s → numbered start w s ≡ atPlace w (s - start)
+numbered-place start w s l =
+    let e : start + (s - start) ≡ s = omega arith in subst (λ (n : ℕ). numbered start w n ≡ atPlace w (s - start)) e (numbered-at start w (s - start))
 
 -- what holds of two null slots, and of each place before and after, holds of every number
 pub by-place : (P : ℕ → Slot → Slot → Type 0) (start : ℕ) (w w′ : Window) → ((s : ℕ) → P s nullSlot nullSlot) → ((i : ℕ) → P (start + i) (atPlace w i) (atPlace w′ i))

@@ -3,13 +3,12 @@ use mathlib.Core.Path.{_≡_, refl, sym, ap, subst, _∙_}
 use mathlib.Core.Bool.{true}
 use mathlib.Core.List.{List, List·Memᴰ·not-nil}
 use mathlib.Core.Logic.{_⊎_, inl, inr}
-use Prim.Native.Nat.{ℕ, _+_, _-_, _≤_}
+use Prim.Native.Nat.{ℕ, _-_, _≤_}
 use native.Mathlib.Omega.{arith}
 use Rattle.base.specs.Among.{_∈_, all-in}
 use Rattle.members.specs.Sets.{has}
 use Rattle.batch.specs.declared.Batch.{Batch}
 use Rattle.actions.specs.declared.Action.{Action}
-use Rattle.actions.specs.declared.Action.the-variants.{AcceptReply}
 use Rattle.actions.specs.Actions.{Act}
 use Rattle.slots.specs.declared.Vote.{Vote}
 use Rattle.slots.specs.declared.Slot.{Slot}
@@ -25,7 +24,7 @@ use Rattle.voting.specs.Paper.{Majority, Chosen}
 use Rattle.voting.specs.Quorums.{commitOf, acksOf, Committed, commit-at, commit-by-reply, commit-by-own}
 use Rattle.voting.specs.Backing.{insert-or}
 use Rattle.voting.specs.Speaking.{SaidOf, OnCompletion, says-ok}
-use Rattle.agreement.specs.BySlot.{numbered, numbered-at}
+use Rattle.agreement.specs.BySlot.{numbered-place}
 use Rattle.agreement.specs.Theorem.{Group, World, slotOf, put, begin, May, Reach, begins, turn, acceptEntry}
 use Rattle.agreement.specs.Frame.{Marked, ActOk}
 use Rattle.agreement.specs.Group.{viewOf, old, cases, inv, good-in, stays-in, framed, agreement-of}
@@ -69,9 +68,6 @@ pub sized-in : (g : Group) (w : World) → Reach g w → (m : ℕ) → g .presen
 sized-in g = stays-in (λ (r : Replica). r .sc .group) g (λ w r m p room c. group-stays (w .replica m) room c)
 
 -- ── in a truthful run a reply has its accept entry ──
-numbered-place : (from : ℕ) (w : Window) (s : ℕ) → from ≤ s → numbered from w s ≡ atPlace w (s - from)
-numbered-place from w s l = let e : from + (s - from) ≡ s = omega arith in subst (λ (n : ℕ). numbered from w n ≡ atPlace w (s - from)) e (numbered-at from w (s - from))
-
 abbrev HasEntry : World → ℕ → ℕ → ℕ → Type 0
 HasEntry w m s ballot = (e : Batch) × (acceptEntry s ballot e ∈ w .did m)
 

@@ -214,7 +214,7 @@ module _ (g : Group) (w : World) (i : Inv g w) (m : ℕ) (l : g .present m ≡ t
       }
 
 -- ── the start ──
-fresh-good : (m size start options : ℕ) → m < 9 → GoodReplica (fresh m size start options)
+pub fresh-good : (m size start options : ℕ) → m < 9 → GoodReplica (fresh m size start options)
 unfolding makeBatch
 fresh-good m size start options h =
     record {

@@ -1,19 +1,17 @@
 -- A new strict replica is one of which every call keeps to the strict frame, and a call leaves such a one. What holds of it alone (Sight, `Fine`).
-use mathlib.Core.Path.{_≡_, refl, sym, ap, subst, _∙_}
+use mathlib.Core.Path.{_≡_, refl, ap, _∙_}
 use mathlib.Core.Bool.{true}
 use Prim.Native.Nat.{ℕ, _+_, _-_, _/_, _%_, _≤_, _<_}
 use native.Mathlib.Omega.{arith}
 use lib.Dec.{ltb, eqb}
 use borrow.Author.Tests.{ltb-true}
-use Rattle.base.specs.Pick.{pick-cases, tests, and-both}
+use Rattle.base.specs.Pick.{pick-cases, and-both}
 use Rattle.members.specs.Groups.{groupSize}
 use Rattle.members.specs.Laws.{group-bounds}
-use Rattle.batch.specs.Batches.{makeBatch}
 use Rattle.slots.specs.declared.Slot.{Slot}
 use Rattle.slots.specs.Slots.{nullSlot}
 use Rattle.decide.specs.Scalars.{strict, mayBe}
 use Rattle.window.specs.declared.Window.{Window}
-use Rattle.window.specs.Window.{noSlots}
 use Rattle.window.specs.ByPlace.{atPlace, at-past}
 use Rattle.replica.specs.declared.Replica.{Replica}
 use Rattle.replica.specs.declared.Made.{Made}
@@ -23,9 +21,10 @@ use Rattle.replica.specs.Step.{Call, step}
 use Rattle.laws.specs.OfFit.{fit-facts, fresh-fits}
 use Rattle.laws.specs.Theorems.{fit-stays, kind-stays}
 use Rattle.voting.specs.Reached.{good-step, good-new}
-use Rattle.agreement.specs.BySlot.{numbered, numbered-at, by-place}
-use Rattle.agreement.specs.Good.{GoodSlot, GoodReplica}
+use Rattle.agreement.specs.BySlot.{numbered, numbered-place, by-place}
+use Rattle.agreement.specs.Good.{GoodReplica}
 use Rattle.agreement.specs.Calls.{step-ok}
+use Rattle.agreement.specs.Group.{fresh-good}
 use Rattle.safety.specs.Sight.{sightOf, Fine, Able}
 
 -- ── a call ──
@@ -39,19 +38,6 @@ able-step r room c a =
     }
 
 -- ── a new replica ──
-fresh-good : (id size start options : ℕ) → id < 9 → GoodReplica (fresh id size start options)
-unfolding makeBatch
-fresh-good id size start options h =
-    record {
-      small = omega arith;
-      sent = λ z. refl;
-      own = λ z. absurd (omega (arith, tests));
-      wide = refl;
-      short = omega arith;
-      each = λ i. subst (GoodSlot (fresh id size start options .sc)) (sym (at-past noSlots i (omega arith)))
-          (record { under = omega arith; busy = λ _ a _. absurd (omega arith); tidy = refl; tidyVote = refl });
-    }
-
 -- what `GoodReplica` and the fit test ask of it
 made : (id size start options : ℕ) → newReplica id size start options .answer ≡ 0
     → GoodReplica (newReplica id size start options .replica) × (fit (newReplica id size start options .replica) ≡ true)
@@ -83,11 +69,6 @@ able-new id size start options e k =
 -- what holds of a null slot, and of each place, holds of every number
 pub every-slot : (P : Slot → Type 0) (start : ℕ) (w : Window) → P nullSlot → ((i : ℕ) → P (atPlace w i)) → (s : ℕ) → P (numbered start w s)
 every-slot P start w n h s = by-place (λ (s : ℕ) (x y : Slot). P y) start w w (λ s. n) h s
-
--- the slot at a number that is not below the start
-pub numbered-place : (start : ℕ) (w : Window) (s : ℕ) → start ≤ s → numbered start w s ≡ atPlace w (s - start)
-numbered-place start w s l =
-    let e : start + (s - start) ≡ s = omega arith in subst (λ (n : ℕ). numbered start w n ≡ atPlace w (s - start)) e (numbered-at start w (s - start))
 
 -- past the log's end
 pub numbered-past : (start : ℕ) (w : Window) (s : ℕ) → start + w .len ≤ s → numbered start w s ≡ nullSlot

@@ -37,10 +37,9 @@ use Rattle.laws.specs.WaysLeadership.{timeoutStep-ways, commitNoticeStep-ways}
 use Rattle.laws.specs.WaysDurability.{logged, loggedAt, Logs, Completes, completes-silent, completes-more, completes-commit, completes-report, moved-ways, passFrom, passed, loggedStep-ways}
 use Rattle.laws.specs.WaysAdded.{offerStep-ways, executedStep-ways, openReadStep-ways, readReplyStep-ways}
 use Rattle.voting.specs.Keeping.{logged-keeps}
-use Rattle.agreement.specs.BySlot.{by-place}
+use Rattle.agreement.specs.BySlot.{by-place, numbered-place}
 use Rattle.agreement.specs.Theorem.{slotOf}
 use Rattle.safety.specs.Sight.{sightOf, Bars, Able}
-use Rattle.safety.specs.Able.{numbered-place}
 
 -- ── what becomes of the log's length and of commit_bar ──
 pub record Moves (r q : Replica) : Type 0 where

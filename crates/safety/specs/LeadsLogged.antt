@@ -34,8 +34,9 @@ use Rattle.voting.specs.Claims.{of}
 use Rattle.voting.specs.Logging.{ownAnswer, LogWays}
 use Rattle.voting.specs.Backing.{Standing, stands, after-same}
 use Rattle.agreement.specs.Theorem.{slotOf}
+use Rattle.agreement.specs.BySlot.{numbered-place}
 use Rattle.safety.specs.Sight.{sightOf, Replied, replied-own, Able}
-use Rattle.safety.specs.LeadsRest.{slot-at, Silent, Rest, Rests, rests-then, rests-put, rests-sweep, rests-lead, passed-rest, logged-rest, acked-rest, committed-rest}
+use Rattle.safety.specs.LeadsRest.{Silent, Rest, Rests, rests-then, rests-put, rests-sweep, rests-lead, passed-rest, logged-rest, acked-rest, committed-rest}
 use Rattle.safety.specs.LeadsNoted.{voteIn, faceOf}
 use Rattle.safety.specs.LeadsReply.{leadsAfter, reply-leads}
 
@@ -80,7 +81,7 @@ module _ (r : Replica) (d : Done) (a : Able r) (f : Logs r d) where
     unfolding loggedOn
     logged-as =
         ap p (sym (at-here (logged r d .window) (place (r .sc) (d .slot)) (omega (arith, f .low, f .high)))) ∙ logged-each (place (r .sc) (d .slot))
-        ∙ sym (ap p (slot-at (r .sc .start) (r .window) (d .slot) (f .low)))
+        ∙ sym (ap p (numbered-place (r .sc .start) (r .window) (d .slot) (f .low)))
 
   logged-rests : Rests (r .window) (logged r d .window)
   unfolding loggedOn

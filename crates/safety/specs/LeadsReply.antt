@@ -42,10 +42,10 @@ use Rattle.voting.specs.Replying.{enteredWindow, entersActs, replyActs, Counts 
 use Rattle.voting.specs.Backing.{Standing, stands, insert-or, noted-same, heard-same, entered-same}
 use Rattle.voting.specs.Majorities.{counted-set, full-majority}
 use Rattle.voting.specs.Covered.{triggerPlace, acksOf, countedSet, CoveredTo, Onward, After, after-none, onward-then, put-onward, covered-to, counts-why, counts-covered}
-use Rattle.agreement.specs.BySlot.{numbered, numbered-at, by-place}
+use Rattle.agreement.specs.BySlot.{numbered, numbered-at, by-place, numbered-place}
 use Rattle.agreement.specs.Frame.{Owns}
 use Rattle.safety.specs.Sight.{Sight, notes, highest, counted, Replied, Counts, GoesOn, on, Proposes, entered, Leads}
-use Rattle.safety.specs.LeadsRest.{sightAt, slot-at, Writes}
+use Rattle.safety.specs.LeadsRest.{sightAt, Writes}
 use Rattle.safety.specs.LeadsNoted.{voteIn, Face, faceOf, Mid, mid-null, heard-each, counted-each}
 
 -- of a call's outcome, whatever its bar
@@ -83,7 +83,7 @@ module _ (r : Replica) (w : Window) (bar : ℕ) (c : Call) (peer : ℕ) (m : Rep
 
   -- who is counted, by the trigger's place
   set-at : Answers r m → (u : Window) → numbered (r .sc .start) u (r .sc .«lead_trigger») .leader .«prepare_acks» ≡ countedSet (r .sc) u
-  set-at f u = ap acksOf (slot-at (r .sc .start) u (r .sc .«lead_trigger») (trigger-low f))
+  set-at f u = ap acksOf (numbered-place (r .sc .start) u (r .sc .«lead_trigger») (trigger-low f))
 
   set-before : Answers r m → counted v ≡ countedSet (r .sc) (r .window)
   set-before f = set-at f w ∙ ap (λ (t : Face). t .leader .«prepare_acks») (same (triggerPlace (r .sc)))
@@ -152,7 +152,7 @@ module _ (r : Replica) (w : Window) (bar : ℕ) (c : Call) (peer : ℕ) (m : Rep
             ap endOf (sym (at-here (r .window) (place (r .sc) (m .trigger)) (omega (arith, f .low, f .logged))))
             ∙ sym (ap (λ (t : Face). t .leader .endprep) (same (place (r .sc) (m .trigger))))
             ∙ ap (λ (t : ℕ). endOf (atPlace w (place (r .sc) t))) (trigger-is f)
-            ∙ sym (ap endOf (slot-at (r .sc .start) w (r .sc .«lead_trigger») (trigger-low f)))
+            ∙ sym (ap endOf (numbered-place (r .sc .start) w (r .sc .«lead_trigger») (trigger-low f)))
 
     leads-of : ((i : ℕ) → Mid r w bar c peer m (number (r .sc) i) (atPlace w i) (atPlace u i)) → ((i : ℕ) → Later (atPlace u i) (atPlace w′ i))
         → ((p : ℕ) → has (countedSet (r .sc) w′) p ≡ true → (has (countedSet (r .sc) (r .window)) p ≡ true) ⊎ Counts v c v′ mid p)
@@ -237,7 +237,7 @@ module _ (r : Replica) (w : Window) (bar : ℕ) (c : Call) (peer : ℕ) (m : Rep
             reply = by f;
             high = omega arith;
             noted = λ k lo hi s.
-                (let e = slot-at (r .sc .start) (countedWindow r peer m) k (omega (arith, trigger-low f)) in
+                (let e = numbered-place (r .sc .start) (countedWindow r peer m) k (omega (arith, trigger-low f)) in
                 subst (λ (x : Slot). has (notes x) peer ≡ true) (sym e) (t .noted (place (r .sc) k) (omega arith) (omega arith) (subst (λ (x : Slot). x .status ≡ 1) e s)));
           })
 

@@ -26,7 +26,7 @@ use Rattle.window.specs.ByPlace.{atPlace, at-here, put-cases, sweep-cases, grow
 use Rattle.replica.specs.declared.Replica.{Replica}
 use Rattle.replica.specs.Step.{Call}
 use Rattle.voting.specs.Claims.{core}
-use Rattle.agreement.specs.BySlot.{numbered, numbered-at, by-place}
+use Rattle.agreement.specs.BySlot.{numbered, by-place}
 use Rattle.agreement.specs.Theorem.{acceptEntry}
 use Rattle.agreement.specs.Frame.{Owns, named}
 use Rattle.safety.specs.Sight.{Sight, sightOf, notes, highest, still, GoesOn, on, Proposes, Leads}
@@ -48,10 +48,6 @@ sightAt sc w bar =
       bar = bar;
       slot = numbered (sc .start) w;
     }
-
--- a slot of the log by its place
-pub slot-at : (start : ℕ) (w : Window) (s : ℕ) → start ≤ s → numbered start w s ≡ atPlace w (s - start)
-slot-at start w s l = let q : start + (s - start) ≡ s = omega arith in subst (λ (n : ℕ). numbered start w n ≡ atPlace w (s - start)) q (numbered-at start w (s - start))
 
 -- ── the entries that a call writes: P of its prepare entries, Q of its accept entries ──
 abbrev pub Entry : (ℕ → ℕ → Type 0) → (ℕ → ℕ → Batch → Type 0) → List ℕ → Action → Type 0

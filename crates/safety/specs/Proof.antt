@@ -34,12 +34,13 @@ use Rattle.laws.specs.Theorems.{refusals-keep, refusals-silent}
 use Rattle.laws.specs.WaysMessages.{acceptWindow}
 use Rattle.laws.specs.Fifteen.{Other, fifteen-why}
 use Rattle.voting.specs.Core.{Lawful, chosen-fixes, chosen-agree}
+use Rattle.agreement.specs.BySlot.{numbered-place}
 use Rattle.agreement.specs.Theorem.{Group, Mark, World, slotOf, rises, markAt, marksOf, upd, put, begin}
 use Rattle.agreement.specs.ForGood.{Happens, timer-fires, batch-comes, entry-done, batch-executed, read-opened, read-replied, message-comes, real, turned-away, Comes, starts, goes, OneSlotOneBatch}
 use Rattle.agreement.specs.Local.{acceptSent}
 use Rattle.agreement.specs.Group.{upd-same, upd-other, each as each-member, inv-start, made-fresh}
 use Rattle.safety.specs.Sight.{sightOf, Able}
-use Rattle.safety.specs.Able.{able-step, able-new, fine-of, every-slot, numbered-place}
+use Rattle.safety.specs.Able.{able-step, able-new, fine-of, every-slot}
 use Rattle.safety.specs.Frames.{keeps-to}
 use Rattle.safety.specs.Scene.{Scene, HasPromised, Voted, Lasts, Issued, Fixed, Brought, received-brought, completions, acted}
 use Rattle.safety.specs.Alone.{Alone}

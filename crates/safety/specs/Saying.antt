@@ -3,13 +3,11 @@
 use mathlib.Core.Path.{_≡_, refl, sym, ap, subst, _∙_}
 use mathlib.Core.Bool.{true, false}
 use mathlib.Core.List.{List, [], _∷_}
-use mathlib.Core.Logic.{_⊎_, inl, inr}
 use Prim.Native.Nat.{ℕ, _+_, _≤_, _<_}
 use native.Mathlib.Omega.{arith}
-use lib.Dec.{ltb, leb}
-use borrow.Author.Tests.{ltb-true, ltb-false, leb-false, lt-leb, eq-eqb}
-use Rattle.base.specs.Pick.{pick-both, pick-cases, decide, clash, larger-right}
-use Rattle.base.specs.Find.{last-past}
+use lib.Dec.{leb}
+use borrow.Author.Tests.{leb-false, lt-leb, eq-eqb}
+use Rattle.base.specs.Pick.{pick-both, pick-cases, clash, larger-right}
 use Rattle.base.specs.Among.{All, all-append}
 use Rattle.base.specs.Gather.{gather, all-gather}
 use Rattle.actions.specs.declared.Action.the-variants.{Prepare}
@@ -21,7 +19,7 @@ use Rattle.window.specs.declared.Window.{Window}
 use Rattle.window.specs.Window.{slotAt, firstOpen, lastUsed}
 use Rattle.window.specs.Acts.{promise, redoActs}
 use Rattle.window.specs.Places.{filled-has}
-use Rattle.window.specs.ByPlace.{atPlace, at-here, at-past, sweep-cases, sweep-at}
+use Rattle.window.specs.ByPlace.{atPlace, at-here, sweep-cases, sweep-at}
 use Rattle.replica.specs.declared.Replica.{Replica}
 use Rattle.replica.specs.Record.{Outcome, place, number}
 use Rattle.replica.specs.Messages.{downActs, prepareTop, prepareBook}
@@ -33,6 +31,7 @@ use Rattle.laws.specs.WaysLeadership.{leadWindow, leadTrigger, leadEnd, leadFro
 use Rattle.agreement.specs.BySlot.{numbered, numbered-at, by-place}
 use Rattle.agreement.specs.Theorem.{slotOf}
 use Rattle.agreement.specs.Good.{GoodReplica, Grew, grew}
+use Rattle.voting.specs.Unvoted.{past-last}
 use Rattle.safety.specs.Sight.{Sight, sightOf, Promises, Says}
 
 -- every action of a list says what is so, v before the call c and q after it
@@ -63,18 +62,6 @@ promises-at q start i ballot e l b n =
     }
 
 -- ── Prepare ──
--- past the last slot in use
-past-last : (w : Window) (i : ℕ) → lastUsed w < i → atPlace w i .status ≡ 0
-unfolding lastUsed
-past-last w i l = go (decide (ltb i (w .len)))
-  where
-    go : (ltb i (w .len) ≡ true) ⊎ (ltb i (w .len) ≡ false) → atPlace w i .status ≡ 0
-    go (inl t) =
-        let u = ltb-true _ _ t in
-        let z = ltb-false 0 (slotAt w i .status) (last-past (λ i. ltb 0 (slotAt w i .status)) 0 (w .len) i l u) in
-        ap (λ (s : Slot). s .status) (at-here w i u) ∙ omega arith
-    go (inr t) = ap (λ (s : Slot). s .status) (at-past w i (ltb-false _ _ t))
-
 module _ (r : Replica) (g : GoodReplica r) (peer trigger ballot : ℕ) (f : Prepares r peer trigger ballot) where
   abbrev from : ℕ
   from = place (r .sc) trigger

@@ -34,7 +34,7 @@ use Rattle.laws.specs.WaysDurability.{completion, logged, loggedAt, Logs, Compl
 use Rattle.voting.specs.Windows.{Whole, whole-put}
 use Rattle.agreement.specs.Theorem.{slotOf}
 use Rattle.safety.specs.Sight.{sightOf, Notices, Says}
-use Rattle.safety.specs.Able.{numbered-place}
+use Rattle.agreement.specs.BySlot.{numbered-place}
 use Rattle.safety.specs.Bars.{logged-slot}
 use Rattle.safety.specs.Saying.{SaysAll, Told}
 use Rattle.safety.specs.SayingReply.{reply-says}

@@ -203,7 +203,7 @@ unvoted-new id group start options =
     (λ t e. none-unvoted) (λ t e. absurd (omega arith))
 
 -- ── past the endprep that a Prepare leaves at its trigger, every slot is Null, and has no vote ──
-past-last : (w : Window) (i : ℕ) → lastUsed w < i → atPlace w i .status ≡ 0
+pub past-last : (w : Window) (i : ℕ) → lastUsed w < i → atPlace w i .status ≡ 0
 unfolding lastUsed
 past-last w i l = go (decide (ltb i (w .len)))
   where
