@@ -1,6 +1,5 @@
 pub mod BySlot
 pub mod Theorem
-pub mod ForGood
 pub mod Frame
 pub mod Good
 pub mod OfMessages

@@ -3,7 +3,7 @@
 -- arrives unchanged under its true sender, and none is made up. Then: the ballots in the prepare and accept entries each replica writes to its
 -- log never fall; any two accept entries in any logs for one slot and ballot name one batch; two replicas that mark a slot committed at one
 -- ballot hold the same batch in it as they mark it. (No claim across ballots: a log completion here names no ballot.)" Since 02's fifth wish it names
--- one, which a base replica ignores (Ignored) and a strict one asks for.
+-- one, which a base replica ignores (Ignored) and a strict one asks for: of strict groups there is more, across ballots (safety/specs/ForGood).
 use mathlib.Core.Path.{_≡_}
 use mathlib.Core.Bool.{Bool, true, _&&_}
 use mathlib.Core.List.{List, [], _∷_, _++_}

@@ -21,7 +21,7 @@ use Rattle.replica.specs.declared.Entry.the-variants.{PrepareBal as PrepareEntr
 use Rattle.replica.specs.declared.Done.{Done}
 use Rattle.replica.specs.Step.{Call}
 use Rattle.voting.specs.StrictVotes.{entryOf}
-use Rattle.agreement.specs.ForGood.{EntryIn}
+use Rattle.safety.specs.ForGood.{EntryIn}
 use Rattle.agreement.specs.Frame.{Owns, Clean, Wrote, ActOk}
 use Rattle.agreement.specs.Local.{Local, local-step, new}
 use Rattle.safety.specs.Sight.{Sight, plain, Fine, Ends, Promises, Notices, Says, GoesOn, Lead, rose, on, Strict}

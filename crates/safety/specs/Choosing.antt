@@ -12,7 +12,7 @@ use Rattle.batch.specs.declared.Batch.{Batch}
 use Rattle.slots.specs.declared.Vote.{Vote}
 use Rattle.slots.specs.declared.Slot.{Slot}
 use Rattle.voting.specs.Paper.{Majority, AcceptedBelow}
-use Rattle.voting.specs.Core.{Obeys, Lawful, obeys-stays}
+use Rattle.voting.specs.Core.{Values, Obeys, Lawful, obeys-stays}
 use Rattle.voting.specs.StrictVotes.{entryOf}
 use Rattle.agreement.specs.Theorem.{acceptEntry}
 use Rattle.agreement.specs.Frame.{Owns, Why, led, told}
@@ -86,8 +86,7 @@ module _ {size : ℕ} {present : ℕ → Bool} {g : Scene} (t : Move size presen
         none z y ((p, h, a), u) = let w = under y ((p, h, a), u) in let v = positive s y (votes-issued s p y a) in omega arith
 
         value : (highest (mid s) ≡ 0) ⊎ ((highest (mid s) < before t .sent) × Issued (next t) s (record { ballot = highest (mid s); batch = mid s .batch }))
-            → ((y : Vote) → AcceptedBelow (Voted (next t) s) set (x .ballot) y → ⊥) ⊎
-            ((y : Vote) × Issued (next t) s y × (y .ballot < x .ballot) × (y .batch ≡ x .batch) × ((z : Vote) → AcceptedBelow (Voted (next t) s) set (x .ballot) z → z .ballot ≤ y .ballot))
+            → Values (Voted (next t) s) (Issued (next t) s) set x
         value (inl z) = inl (none z)
         value (inr (u, i)) = inr (record { ballot = highest (mid s); batch = mid s .batch }, i, omega arith, sym e, under)
 

@@ -42,7 +42,7 @@ use Rattle.agreement.specs.BySlot.{numbered}
 use Rattle.agreement.specs.Theorem.{Group, World, slotOf, marksOf, upd, put, begin, acceptEntry}
 use Rattle.agreement.specs.Written.{line, lines}
 use Rattle.agreement.specs.Runs.{Turn, times, offers, logs, gets, who, does, thing, play, happen, deliver, getD-in, seven, mark, further}
-use Rattle.agreement.specs.ForGood.{EntryIn, Happens, timer-fires, batch-comes, entry-done, message-comes, real, Comes, starts, goes}
+use Rattle.safety.specs.ForGood.{EntryIn, Happens, timer-fires, batch-comes, entry-done, message-comes, real, Comes, starts, goes}
 
 -- ── the test of a turn: a completion is of an entry that this member wrote, with kind, slot and ballot; what arrives is a message that its sender did ──
 -- a log entry as numbers: 01's number of its kind, its slot and ballot, and its keys, which are not looked at in an accept entry; of an action that is

@@ -1,3 +1,4 @@
+pub mod ForGood
 pub mod Sight
 pub mod Able
 pub mod Bars

@@ -11,7 +11,7 @@ use Rattle.slots.specs.declared.Vote.{Vote}
 use Rattle.replica.specs.declared.Done.{Done}
 use Rattle.replica.specs.Step.{Call, callLogged}
 use Rattle.voting.specs.StrictVotes.{entryOf}
-use Rattle.agreement.specs.ForGood.{EntryIn}
+use Rattle.safety.specs.ForGood.{EntryIn}
 use Rattle.agreement.specs.Frame.{Wrote, ActOk}
 use Rattle.safety.specs.Sight.{Sight, plain, Strict}
 use Rattle.safety.specs.Scene.{Scene, promises, HasPromised, Voted, NoneBelow, Brought, completions, done-in, reported-in, acted, old-did, old-log, log-cases, old-reported, new-reported}

@@ -1,4 +1,4 @@
--- THE PROOF of 02, Wish 7 (agreement/specs/ForGood): every world that a group of strict members comes to is a sound scene, with whatever completions were
+-- THE PROOF of 02, Wish 7 (ForGood): every world that a group of strict members comes to is a sound scene, with whatever completions were
 -- reported; so each mark is of a batch that was chosen, and the paper's argument gives the rest.
 use mathlib.Core.Path.{_≡_, refl, sym, ap, subst, _∙_, fun-ext}
 use mathlib.Core.Bool.{Bool, true}
@@ -36,7 +36,7 @@ use Rattle.laws.specs.Fifteen.{Other, fifteen-why}
 use Rattle.voting.specs.Core.{Lawful, chosen-fixes, chosen-agree}
 use Rattle.agreement.specs.BySlot.{numbered-place}
 use Rattle.agreement.specs.Theorem.{Group, Mark, World, slotOf, rises, markAt, marksOf, upd, put, begin}
-use Rattle.agreement.specs.ForGood.{Happens, timer-fires, batch-comes, entry-done, batch-executed, read-opened, read-replied, message-comes, real, turned-away, Comes, starts, goes, OneSlotOneBatch}
+use Rattle.safety.specs.ForGood.{Happens, timer-fires, batch-comes, entry-done, batch-executed, read-opened, read-replied, message-comes, real, turned-away, Comes, starts, goes, OneSlotOneBatch}
 use Rattle.agreement.specs.Local.{acceptSent}
 use Rattle.agreement.specs.Group.{upd-same, upd-other, each as each-member, inv-start, made-fresh}
 use Rattle.safety.specs.Sight.{sightOf, Able}

@@ -11,7 +11,7 @@ use Rattle.replica.specs.declared.Done.{Done}
 use Rattle.voting.specs.Paper.{OnlyOne, OnlyChosenLearned, P2}
 use Rattle.voting.specs.Core.{Lawful, Obeys, chosen-fixes, chosen-agree, chosen-issued}
 use Rattle.agreement.specs.Theorem.{Group, World}
-use Rattle.agreement.specs.ForGood.{Comes}
+use Rattle.safety.specs.ForGood.{Comes}
 use Rattle.agreement.specs.Worlds.{accepted, issued, learned}
 use Rattle.safety.specs.Scene.{Scene, HasPromised, Issued}
 use Rattle.safety.specs.Lawfully.{member, lawful}

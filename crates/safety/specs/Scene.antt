@@ -25,7 +25,7 @@ use Rattle.laws.specs.WaysDurability.{completion}
 use Rattle.voting.specs.Paper.{Chosen}
 use Rattle.voting.specs.StrictVotes.{entryOf}
 use Rattle.agreement.specs.Theorem.{upd}
-use Rattle.agreement.specs.ForGood.{EntryIn}
+use Rattle.safety.specs.ForGood.{EntryIn}
 use Rattle.agreement.specs.Frame.{Owns}
 use Rattle.agreement.specs.Local.{acceptSent}
 use Rattle.agreement.specs.Group.{upd-same, upd-other}

@@ -22,15 +22,19 @@ abbrev pub Vows : Type 1
 Vows = ℕ → ℕ → Type 0
 
 -- ── the conditions ──
--- P2c of one proposal p: S, a majority, has promised its number, and "either (a) no acceptor in S has accepted any proposal numbered less than n, or (b) v is
--- the value of the highest-numbered proposal among all proposals numbered less than n accepted by the acceptors in S": of one that was issued and is not
--- below any of those
+-- "either (a) no acceptor in S has accepted any proposal numbered less than n, or (b) v is the value of the highest-numbered proposal among all proposals
+-- numbered less than n accepted by the acceptors in S": of one that was issued and is not below any of those
+abbrev pub Values : Votes → (Vote → Type 0) → ℕ → Vote → Type 0
+Values stands issued set p =
+    ((x : Vote) → AcceptedBelow stands set (p .ballot) x → ⊥) ⊎
+    ((x : Vote) × issued x × (x .ballot < p .ballot) × (x .batch ≡ p .batch) × ((y : Vote) → AcceptedBelow stands set (p .ballot) y → y .ballot ≤ x .ballot))
+
+-- P2c of one proposal p: S, a majority, has promised its number
 pub record Obeys (group : ℕ) (vows : Vows) (stands : Votes) (issued : Vote → Type 0) (p : Vote) : Type 0 where
   pub set : ℕ
   pub most : Majority group set
   pub vowed : (m : ℕ) → has set m ≡ true → vows m (p .ballot)
-  pub value : ((x : Vote) → AcceptedBelow stands set (p .ballot) x → ⊥) ⊎
-      ((x : Vote) × issued x × (x .ballot < p .ballot) × (x .batch ≡ p .batch) × ((y : Vote) → AcceptedBelow stands set (p .ballot) y → y .ballot ≤ x .ballot))
+  pub value : Values stands issued set p
 
 -- Two relations of votes. `stands`: the vote stands in a log; one that was never reported durable may be lost. `lasts`: it was reported, and is never lost.
 -- A vote is of a proposal that was issued, and "different proposals have different numbers"
@@ -67,9 +71,7 @@ module _ (group : ℕ) (few : group ≤ 9) (vows : Vows) (lasts stands : Votes) 
           below : v .ballot < p .ballot
           below = omega arith
 
-          by : ((x : Vote) → AcceptedBelow stands (s .set) (p .ballot) x → ⊥) ⊎
-              ((x : Vote) × issued x × (x .ballot < p .ballot) × (x .batch ≡ p .batch) × ((y : Vote) → AcceptedBelow stands (s .set) (p .ballot) y → y .ballot ≤ x .ballot))
-              → p .batch ≡ v .batch
+          by : Values stands issued (s .set) p → p .batch ≡ v .batch
           by (inl none) = absurd (none v (shared below))
           by (inr (x, y, u, e, top)) = sym e ∙ ih x (omega arith) y (top v (shared below))
 
@@ -93,8 +95,7 @@ p2c-obeys group vows accepted issued told c vow p i = let (set, j, d) = c p i in
   where
     go : (set : ℕ) → ((x : Vote) → AcceptedBelow accepted set (p .ballot) x → ⊥) ⊎
         ((x : Vote) × (AcceptedBelow accepted set (p .ballot) x) × (x .batch ≡ p .batch) × ((y : Vote) → AcceptedBelow accepted set (p .ballot) y → y .ballot ≤ x .ballot))
-        → ((x : Vote) → AcceptedBelow accepted set (p .ballot) x → ⊥) ⊎
-        ((x : Vote) × issued x × (x .ballot < p .ballot) × (x .batch ≡ p .batch) × ((y : Vote) → AcceptedBelow accepted set (p .ballot) y → y .ballot ≤ x .ballot))
+        → Values accepted issued set p
     go set (inl none) = inl none
     go set (inr (x, ((m, a, y), z), e, top)) = inr (x, told m x y, z, e, top)
 
@@ -121,9 +122,6 @@ module _ {group : ℕ} {vows vows′ : Vows} {lasts lasts′ stands stands′ : 
           by (inl z) = ((m, a, z), l)
           by (inr z) = absurd (let u = z (p .ballot) (s .vowed m a) in omega arith)
 
-      go : ((x : Vote) → AcceptedBelow stands (s .set) (p .ballot) x → ⊥) ⊎
-          ((x : Vote) × issued x × (x .ballot < p .ballot) × (x .batch ≡ p .batch) × ((y : Vote) → AcceptedBelow stands (s .set) (p .ballot) y → y .ballot ≤ x .ballot))
-          → ((x : Vote) → AcceptedBelow stands′ (s .set) (p .ballot) x → ⊥) ⊎
-          ((x : Vote) × issued′ x × (x .ballot < p .ballot) × (x .batch ≡ p .batch) × ((y : Vote) → AcceptedBelow stands′ (s .set) (p .ballot) y → y .ballot ≤ x .ballot))
+      go : Values stands issued (s .set) p → Values stands′ issued′ (s .set) p
       go (inl none) = inl (λ x y. none x (was x y))
       go (inr (x, y, u, e, top)) = inr (x, g .issues x y, u, e, λ z a. top z (was z a))

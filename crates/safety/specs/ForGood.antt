@@ -1,7 +1,7 @@
 -- 02, Wish 7. "For a group of strict replicas, all fresh with distinct ids and one start slot, with timers and offers at any moment, completions only of
 -- entries written, with their own ballot (late, never or twice), and messages lost, repeated or overtaken but unchanged, under their true sender and none
 -- made up: no two replicas ever mark one slot committed with different batches, at any ballots, and 15 is never given." The group, its worlds and its marks
--- are demand 3's (Theorem). The proof is `for-good` in safety/specs/Proof.
+-- are demand 3's (agreement/specs/Theorem). The proof is `for-good` in Proof.
 use mathlib.Core.Path.{_≡_}
 use mathlib.Core.Bool.{Bool, true}
 use mathlib.Core.List.{List}
