@@ -17,6 +17,7 @@ pub mod first_value;
 mod foresee;
 pub mod generate;
 pub mod guard;
+pub mod honest;
 pub mod merges;
 pub mod model;
 pub mod play;

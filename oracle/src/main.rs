@@ -42,10 +42,12 @@ const USAGE: &str = "usage:
                    what the trace reaches, or what the named traces reach together
   oracle gen SEED COUNT --profile group|fuzz|reads|mix|writes [--strict]
                    writes a trace of COUNT records, fixed by the seed, of base or strict replicas
-  oracle example worked|keys|refusals|late-0|late-1|late-2|first-value|strict-edges
+  oracle example worked|keys|refusals|late-N|first-value|strict-edges|two-batches-N|
+                   strict-two-batches-N
                    writes a trace made by hand: 01's worked example, the key table's edge, both
-                   sides of 01's refusals, a member of a run that commits one slot twice, reads in
-                   which a value meets nothing held, or both sides of the strict rules' edges
+                   sides of 01's refusals, reads in which a value meets nothing held, both sides of
+                   the strict rules' edges, or what member N of three received: in a run that commits
+                   one slot twice, and in 02's, of base members and of strict ones
 The strict kind is played by a model of 02's rules, the base kind by the Rust.";
 
 enum Command {

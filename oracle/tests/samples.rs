@@ -54,11 +54,12 @@ fn replay_and_digest_are_as_stored() {
 
 #[test]
 fn the_traces_made_by_hand_are_as_stored() {
-    let strict = "strict-edges";
-    for name in ["worked", "keys", "refusals", "late-0", "late-1", "late-2", "first-value", strict]
-    {
-        let stored = fs::read(folder().join(name).with_extension("trace")).expect("a trace");
-        assert!(example(name).expect("it is there") == stored, "{name}: the trace differs");
+    let of_one = ["worked", "keys", "refusals", "first-value", "strict-edges"].map(String::from);
+    let runs = ["late", "two-batches", "strict-two-batches"];
+    let of_three = runs.iter().flat_map(|run| (0..3).map(move |member| format!("{run}-{member}")));
+    for name in of_one.into_iter().chain(of_three) {
+        let stored = fs::read(folder().join(&name).with_extension("trace")).expect("a trace");
+        assert!(example(&name).expect("it is there") == stored, "{name}: the trace differs");
     }
 }
 

@@ -2,13 +2,14 @@
 
 use super::refusals::refusals;
 use super::strict_edges::strict_edges;
+use super::two_batches::received_by;
 use crate::batch::{Batch, Keys};
 use crate::call::{Call, Entry, Known, KnownList};
 
 /// A name, and the calls.
 type Example = (&'static str, fn() -> Vec<Call>);
 
-const EXAMPLES: [Example; 8] = [
+const EXAMPLES: [Example; 14] = [
     ("worked", worked),
     ("keys", full_key_table),
     ("refusals", refused_and_done),
@@ -17,6 +18,12 @@ const EXAMPLES: [Example; 8] = [
     ("late-2", late_at_2),
     ("first-value", first_values),
     ("strict-edges", edges_of_the_strict_rules),
+    ("two-batches-0", || received_by(0, false)),
+    ("two-batches-1", || received_by(1, false)),
+    ("two-batches-2", || received_by(2, false)),
+    ("strict-two-batches-0", || received_by(0, true)),
+    ("strict-two-batches-1", || received_by(1, true)),
+    ("strict-two-batches-2", || received_by(2, true)),
 ];
 
 pub fn example(name: &str) -> Option<Vec<u8>> {

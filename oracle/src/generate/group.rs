@@ -10,6 +10,7 @@ use super::{spoil, wild};
 use crate::action::{ALL, Action, Kind};
 use crate::batch::{Batch, Keys};
 use crate::call::{Call, Entry};
+use crate::honest::received;
 use crate::host::multipaxos::WINDOW;
 use crate::record::RECORD_BYTES;
 use crate::session::{Outcome, Session};
@@ -335,22 +336,5 @@ impl<'r> World<'r> {
             0 => u64::MAX,
             _ => place.wrapping_mul(0x9E37_79B9_7F4A_7C15),
         }
-    }
-}
-
-/// The call that a sent message becomes at its receiver.
-fn received(from: u8, action: &Action) -> Option<Call> {
-    let Action { slot, trigger, endprep, ballot, batch, bar, .. } = *action;
-    let peer = from;
-    match action.kind {
-        Kind::Prepare => Some(Call::Prepare { peer, trigger, ballot }),
-        Kind::PrepareReply => {
-            let vote = (action.voted_ballot > 0).then_some((action.voted_ballot, batch));
-            Some(Call::PrepareReply { peer, slot, trigger, endprep, ballot, vote, bar })
-        }
-        Kind::Accept => Some(Call::Accept { peer, slot, ballot, batch }),
-        Kind::AcceptReply => Some(Call::AcceptReply { peer, slot, ballot }),
-        Kind::CommitNotice => Some(Call::CommitNotice { peer, ballot, bar }),
-        _ => None,
     }
 }

@@ -3,12 +3,14 @@
 mod examples;
 mod group;
 mod habits;
+mod honest;
 mod reads;
 mod refusals;
 mod rng;
 mod spoil;
 mod strict_edges;
 mod strict_wild;
+mod two_batches;
 mod wild;
 
 use std::io;
@@ -16,9 +18,11 @@ use std::io;
 pub use examples::example;
 use group::World;
 use habits::Habits;
+pub use honest::honest_run;
 pub use refusals::refusals;
 pub(crate) use rng::Rng;
 pub use strict_edges::strict_edges;
+pub use two_batches::{ALL_MARK, TWO_BATCHES, group_of_three, two_batches};
 
 #[derive(Debug, Clone, Copy, PartialEq, Eq)]
 pub enum Profile {

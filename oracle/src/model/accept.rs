@@ -39,7 +39,7 @@ impl Replica {
     }
 
     fn vote(&mut self, peer: u8, number: u64, ballot: u64, batch: Batch) -> Answer {
-        let strict = self.strict;
+        let committed_stays = self.rules.committed_stays;
         let slot = self.present(number);
         if slot.ballot > ballot {
             return Err(6);
@@ -52,7 +52,7 @@ impl Replica {
             none => *none = Some(Following { source: peer, ..Following::default() }),
         }
         // 02 (d): "Prepare and Accept on a Committed or Executed slot keep its status".
-        let keeps_status = strict && slot.is_committed();
+        let keeps_status = committed_stays && slot.is_committed();
         if !keeps_status {
             slot.status = Status::Accepting;
         }

@@ -1,6 +1,7 @@
 //! 02 (c): how a strict leader notes and counts replies.
 
 use super::prepare_reply::Reply;
+use super::rules::Counting;
 use super::{Answer, Replica, Status};
 use crate::action::Action;
 
@@ -28,12 +29,31 @@ impl Replica {
     /// leader and every slot from trigger to e that is Preparing there has been noted from that
     /// member; self uses its own endprep."
     fn has_told_enough(&self, reply: &Reply) -> bool {
-        let exists = self.slot(reply.endprep).is_some();
+        let e = reply.endprep;
+        let exists = self.slot(e).is_some();
+        match self.rules.counting {
+            Counting::AsAsked => exists && self.is_noted_up_to(e, reply),
+            Counting::SlotNeedNotExist => self.is_noted_up_to(e.min(self.log_end() - 1), reply),
+            Counting::NotesNotNeeded => exists,
+            Counting::ToTheLeadersEnd => {
+                self.is_noted_up_to(self.own_endprep(reply.trigger), reply)
+            }
+            Counting::AsIn01 => reply.slot == e,
+        }
+    }
+
+    /// Every slot from trigger to this one that is Preparing has been noted from the member.
+    fn is_noted_up_to(&self, end: u64, reply: &Reply) -> bool {
         let noted = |number: u64| {
             self.slot(number).is_some_and(|slot| {
                 slot.status != Status::Preparing || slot.noted >> reply.peer & 1 == 1
             })
         };
-        exists && (reply.trigger..=reply.endprep).all(noted)
+        (reply.trigger..=end).all(noted)
+    }
+
+    fn own_endprep(&self, trigger: u64) -> u64 {
+        let leading = self.slot(trigger).and_then(|slot| slot.leading);
+        leading.expect("the trigger slot has bookkeeping").endprep
     }
 }

@@ -46,13 +46,16 @@ impl Replica {
     /// 02 (a): "a prepare or accept completion replies or counts only if its ballot is the slot's
     /// ballot, and for an accept entry also the voted ballot; bars move as before".
     fn may_speak(&mut self, entry: Entry, number: u64, ballot: u64) -> bool {
-        let strict = self.strict;
+        let rules = self.rules;
         let slot = self.present(number);
         let of_the_slot = ballot == slot.ballot;
         let of_the_vote = ballot == slot.vote.0;
         match entry {
-            Entry::PrepareBal => !strict || of_the_slot,
-            Entry::AcceptData => !strict || (of_the_slot && of_the_vote),
+            Entry::PrepareBal => of_the_slot || !rules.prepares_at_the_slots_ballot,
+            Entry::AcceptData => {
+                (of_the_slot || !rules.accepts_at_the_slots_ballot)
+                    && (of_the_vote || !rules.accepts_at_the_votes_ballot)
+            }
             Entry::CommitSlot => true,
         }
     }

@@ -2,7 +2,7 @@
 //! 6 and 7 are decided by rule. The strict kind of 02, Wish 6, which the source lacks, is played by
 //! it; its base kind is held beside the source (`agree`).
 //!
-//! The two kinds part where `strict` is asked for, and nowhere else.
+//! The two kinds part where `strict` or one of the `rules` is asked for, and nowhere else.
 
 mod accept;
 pub mod agree;
@@ -17,6 +17,7 @@ mod prepare;
 mod prepare_reply;
 mod reads;
 mod replica;
+pub mod rules;
 mod step_up;
 mod tell;
 

@@ -26,7 +26,7 @@ impl Replica {
             ..Slot::default()
         };
         // 02 (b): "A leader entering Accept, by quorum or by offer, records the vote as its own."
-        if self.strict {
+        if self.rules.own_votes {
             slot.vote = (ballot, batch);
         }
         self.slots.push(slot);

@@ -26,7 +26,7 @@ impl Replica {
     }
 
     fn promise(&mut self, number: u64, ballot: u64, following: Following) -> Answer {
-        let strict = self.strict;
+        let committed_stays = self.rules.committed_stays;
         let slot = self.present(number);
         if slot.ballot > ballot {
             return Err(6);
@@ -34,7 +34,7 @@ impl Replica {
         slot.ballot = ballot;
         slot.following = Some(following);
         // 02 (d): "Prepare and Accept on a Committed or Executed slot keep its status".
-        let keeps_status = strict && slot.is_committed();
+        let keeps_status = committed_stays && slot.is_committed();
         if !keeps_status {
             slot.status = Status::Preparing;
         }

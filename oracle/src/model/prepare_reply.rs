@@ -117,7 +117,7 @@ impl Replica {
 
     /// 01: "At quorum every Preparing slot from trigger on gives AcceptData, then Accept."
     pub(super) fn enter_accept(&mut self, reply: &Reply, out: &mut Vec<Action>) -> Answer {
-        let (strict, ballot) = (self.strict, reply.ballot);
+        let (own_votes, ballot) = (self.rules.own_votes, reply.ballot);
         if self.bal_prepared > ballot {
             return Err(6);
         }
@@ -130,7 +130,7 @@ impl Replica {
             slot.status = Status::Accepting;
             let batch = slot.batch;
             // 02 (b): "A leader entering Accept, by quorum or by offer, records the vote as its own."
-            if strict {
+            if own_votes {
                 slot.vote = (ballot, batch);
             }
             give_accept(number, ballot, batch, out);

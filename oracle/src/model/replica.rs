@@ -3,6 +3,7 @@
 use std::collections::BTreeMap;
 
 use super::reads::Read;
+use super::rules::Rules;
 use crate::batch::Batch;
 
 /// 01: "Window of 64 slots from `start_slot`".
@@ -13,6 +14,8 @@ const MOST_START: u64 = 1 << 32;
 pub struct Replica {
     /// 02, Wish 6: "a strict kind of replica, chosen when it is made".
     pub strict: bool,
+    /// All of 02's, or none; fewer in tests alone.
+    pub rules: Rules,
     pub id: u8,
     pub group: u8,
     pub start: u64,
@@ -85,9 +88,11 @@ impl Replica {
         if !known_group || id >= group || start > MOST_START || options > 7 {
             return None;
         }
+        // 02: "trace: 4 more in trigger".
+        let strict = options & 4 != 0;
         Some(Replica {
-            // 02: "trace: 4 more in trigger".
-            strict: options & 4 != 0,
+            strict,
+            rules: if strict { Rules::STRICT } else { Rules::BASE },
             id,
             group,
             start,

@@ -43,7 +43,7 @@ impl Replica {
 
     /// 01: "Committed slots are kept."
     fn redo(&mut self, number: u64, leading: Leading, out: &mut Vec<Action>) {
-        let ballot = self.bal_prep_sent;
+        let (ballot, fresh_notes) = (self.bal_prep_sent, self.rules.fresh_notes);
         let slot = self.present(number);
         if slot.status == Status::Executed {
             return;
@@ -56,7 +56,9 @@ impl Replica {
         slot.status = Status::Preparing;
         slot.leading = Some(leading);
         // A strict leader's notes are of this lead; the base kind makes none.
-        slot.noted = 0;
+        if fresh_notes {
+            slot.noted = 0;
+        }
         out.push(Action { kind: Kind::PrepareBal, slot: number, ballot, ..Action::default() });
     }
 
