@@ -86,4 +86,6 @@ fine-of r a =
           (λ i. a .good .each i .busy l);
       past = numbered-past (r .sc .start) (r .window);
       within = fit-facts r (a .fits) .numbers .log;
+      member = fit-facts r (a .fits) .numbers .member;
+      few = group-bounds (r .sc .group) (fit-facts r (a .fits) .numbers .size) .1;
     }

@@ -13,8 +13,8 @@ use Rattle.slots.specs.declared.Vote.{Vote}
 use Rattle.slots.specs.declared.Slot.{Slot}
 use Rattle.voting.specs.Core.{Grows, chosen-stays}
 use Rattle.safety.specs.Sight.{Sight, notes, highest}
-use Rattle.safety.specs.Scene.{Scene, HasPromised, Voted, Lasts, Issued, NoneBelow, Fixed}
-use Rattle.safety.specs.Rows.{Tells, Told, Noting, Stands, Leading}
+use Rattle.safety.specs.Scene.{Scene, HasPromised, Cast, Voted, Lasts, Issued, NoneBelow, Fixed}
+use Rattle.safety.specs.Rows.{Tells, Told, Teller, Noting, Stands, Leading}
 
 pub record Ext (g g′ : Scene) : Type 0 where
   pub promises : (m n : ℕ) → HasPromised g m n → HasPromised g′ m n
@@ -26,8 +26,8 @@ module _ {g g′ : Scene} (e : Ext g g′) where
   pub issued-ext : (s : ℕ) (x : Vote) → Issued g s x → Issued g′ s x
   issued-ext s x (p, o, m) = (p, o, e .keeps p m)
 
-  pub grows : (s : ℕ) → Grows (HasPromised g) (HasPromised g′) (Lasts g s) (Lasts g′ s) (Voted g s) (Voted g′ s) (Issued g s) (Issued g′ s)
-  grows s = record { up = e .promises; votes = λ m x y. e .lasting m s x y; issues = issued-ext s; newer = λ m x y. e .newer m s x y }
+  pub grows : (s : ℕ) → Grows (HasPromised g) (HasPromised g′) (Lasts g s) (Lasts g′ s) (Voted g s) (Voted g′ s) (Cast g s) (Cast g′ s)
+  grows s = record { up = e .promises; votes = λ m x y. e .lasting m s x y; writes = λ m x y. e .keeps m y; newer = λ m x y. e .newer m s x y }
 
   pub fixed-ext : (size s b b′ : ℕ) (v : Batch) → b ≤ b′ → Fixed size g s b v → Fixed size g′ s b′ v
   fixed-ext size s b b′ v l (x, u, q, c) = (x, omega arith, q, chosen-stays (grows s) x c)
@@ -51,25 +51,29 @@ module _ {g g′ : Scene} (e : Ext g g′) where
   tells-ext p s b v t =
       record { promised = e .promises p b (t .promised); under = below-ext p s b (v .ballot) (t .promised) (t .under); low = t .low; value = go (t .value) }
     where
-      go : (v .ballot ≡ 0) ⊎ Issued g s v → (v .ballot ≡ 0) ⊎ Issued g′ s v
+      go : (v .ballot ≡ 0) ⊎ Cast g s p v → (v .ballot ≡ 0) ⊎ Cast g′ s p v
       go (inl z) = inl z
-      go (inr z) = inr (issued-ext s v z)
+      go (inr z) = inr (e .keeps p z)
 
   pub told-ext : (p s k b : ℕ) (v : Vote) → Told g p s k b v → Told g′ p s k b v
   told-ext p s k b v t = record { tells = tells-ext p s b v (t .tells); clear = λ j l. none-ext p j b (t .tells .promised) (t .clear j l) }
 
-  noting-ext : (sent trigger : ℕ) (slot : ℕ → Slot) → Noting g sent trigger slot → Noting g′ sent trigger slot
-  noting-ext sent trigger slot t =
+  teller-ext : (group sent k : ℕ) (v : Vote) (q : ℕ) → Teller g group sent k v q → Teller g′ group sent k v q
+  teller-ext group sent k v q t =
+      record { member = t .member; promised = e .promises q sent (t .promised); under = below-ext q k sent (v .ballot) (t .promised) (t .under); cast = e .keeps q (t .cast) }
+
+  noting-ext : (group sent trigger : ℕ) (slot : ℕ → Slot) → Noting g group sent trigger slot → Noting g′ group sent trigger slot
+  noting-ext group sent trigger slot t =
       record {
         promised = λ k p l q z. e .promises p sent (t .promised k p l q z);
         under = λ k p l q z. below-ext p k sent (highest (slot k)) (t .promised k p l q z) (t .under k p l q z);
         value = λ k l q. go k (t .value k l q);
       }
     where
-      go : (k : ℕ) → (highest (slot k) ≡ 0) ⊎ ((highest (slot k) < sent) × Issued g k (record { ballot = highest (slot k); batch = slot k .batch }))
-          → (highest (slot k) ≡ 0) ⊎ ((highest (slot k) < sent) × Issued g′ k (record { ballot = highest (slot k); batch = slot k .batch }))
+      go : (k : ℕ) → (highest (slot k) ≡ 0) ⊎ ((highest (slot k) < sent) × ((q : ℕ) × Teller g group sent k (record { ballot = highest (slot k); batch = slot k .batch }) q))
+          → (highest (slot k) ≡ 0) ⊎ ((highest (slot k) < sent) × ((q : ℕ) × Teller g′ group sent k (record { ballot = highest (slot k); batch = slot k .batch }) q))
       go k (inl z) = inl z
-      go k (inr (l, z)) = inr (l, issued-ext k _ z)
+      go k (inr (l, (q, z))) = inr (l, (q, teller-ext group sent k _ q z))
 
   pub stands-ext : (sent trigger stop : ℕ) (slot : ℕ → Slot) (p : ℕ) → Stands g sent trigger stop slot p → Stands g′ sent trigger stop slot p
   stands-ext sent trigger stop slot p t =
@@ -86,7 +90,7 @@ module _ {g g′ : Scene} (e : Ext g g′) where
   pub leading-ext : (v : Sight) → Leading g v → Leading g′ v
   leading-ext v t =
       record {
-        noting = noting-ext (v .sent) (v .trigger) (v .slot) (t .noting);
+        noting = noting-ext (v .group) (v .sent) (v .trigger) (v .slot) (t .noting);
         counts = λ p z. stands-ext (v .sent) (v .trigger) (v .stop) (v .slot) p (t .counts p z);
         most = λ z. (let (set, j, f) = t .most z in (set, j, λ p y. stands-ext (v .sent) (v .trigger) (v .stop) (v .slot) p (f p y)));
       }

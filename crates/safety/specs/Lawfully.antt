@@ -13,7 +13,7 @@ use Rattle.slots.specs.declared.Vote.{Vote}
 use Rattle.voting.specs.Core.{Obeys, Lawful}
 use Rattle.voting.specs.StrictVotes.{entryOf}
 use Rattle.agreement.specs.Theorem.{acceptEntry}
-use Rattle.safety.specs.Scene.{Scene, HasPromised, Voted, Lasts, Issued}
+use Rattle.safety.specs.Scene.{Scene, HasPromised, Cast, Voted, Lasts, Issued}
 use Rattle.safety.specs.Alone.{Alone}
 
 module _ (present : ℕ → Bool) (g : Scene) (alone : (m : ℕ) → present m ≡ true → Alone m (g .sight m) (g .did m) (g .log m) (g .reported m))
@@ -44,6 +44,6 @@ module _ (present : ℕ → Bool) (g : Scene) (alone : (m : ℕ) → present m �
     pub voted-issued : (s m : ℕ) (x : Vote) → Voted g s m x → Issued g s x
     voted-issued s m x a = from m s x (stood m a)
 
-    pub lawful : (size s : ℕ) → ((x : Vote) → Issued g s x → Obeys size (HasPromised g) (Voted g s) (Issued g s) x)
-        → Lawful size (HasPromised g) (Lasts g s) (Voted g s) (Issued g s)
-    lawful size s obeys = record { standing = λ m x y. y .0; told = voted-issued s; one = one-issued s; obeys = obeys }
+    pub lawful : (size s : ℕ) → ((x : Vote) → Issued g s x → Obeys size (HasPromised g) (Cast g s) (Voted g s) x)
+        → Lawful size (HasPromised g) (Lasts g s) (Voted g s) (Cast g s) (Issued g s)
+    lawful size s obeys = record { standing = λ m x y. y .0; written = λ m x y. stood m y; told = λ m x y. from m s x y; one = one-issued s; obeys = obeys }

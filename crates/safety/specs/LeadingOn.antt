@@ -17,9 +17,9 @@ use Rattle.voting.specs.Paper.{Majority}
 use Rattle.voting.specs.StrictVotes.{entryOf}
 use Rattle.agreement.specs.Frame.{Owns}
 use Rattle.safety.specs.Sight.{notes, highest, counted, Noted, still, heard, Counts, GoesOn, Rose, Lead, rose, on}
-use Rattle.safety.specs.Scene.{Scene, HasPromised, Voted, Issued, NoneBelow}
-use Rattle.safety.specs.Rows.{Noting, Stands, Leading}
-use Rattle.safety.specs.Growth.{issued-ext, leading-ext}
+use Rattle.safety.specs.Scene.{Scene, Cast, HasPromised, Voted, Issued, NoneBelow}
+use Rattle.safety.specs.Rows.{Teller, Noting, Stands, Leading}
+use Rattle.safety.specs.Growth.{leading-ext}
 use Rattle.safety.specs.Moves.{Move, before, next, one, one′, me, ext}
 use Rattle.safety.specs.Telling.{Hears, hears}
 
@@ -66,7 +66,7 @@ module _ {size : ℕ} {present : ℕ → Bool} {g : Scene} (t : Move size presen
         go (inr z) = absurd (blank k p z h)
 
     abbrev Valued : ℕ → ℕ → Batch → Type 0
-    Valued k n b = (n ≡ 0) ⊎ ((n < before t .sent) × Issued (next t) k (record { ballot = n; batch = b }))
+    Valued k n b = (n ≡ 0) ⊎ ((n < before t .sent) × ((q : ℕ) × Teller (next t) (before t .group) (before t .sent) k (record { ballot = n; batch = b }) q))
 
     value-at : (k : ℕ) → before t .trigger ≤ k → mid k .status ≡ 1 → Valued k (highest (before t .slot k)) (before t .slot k .batch)
     value-at k l q = go (f .was k q)
@@ -107,15 +107,17 @@ module _ {size : ℕ} {present : ℕ → Bool} {g : Scene} (t : Move size presen
     noted-value k l q (heard p e v r new old (inl (_, m, b))) =
         subst (λ (n : ℕ). Valued k n (mid k .batch)) (sym m) (subst (Valued k (v .ballot)) (sym b) (go (hears t p k e v (f .leading) r .before-it)))
       where
-        go : (v .ballot ≡ 0) ⊎ Issued g k v → Valued k (v .ballot) (v .batch)
+        go : (v .ballot ≡ 0) ⊎ Cast g k p v → Valued k (v .ballot) (v .batch)
         go (inl z) = inl z
-        go (inr z) = inr (below (same? (v .ballot) (before t .sent)), issued-ext (ext t) k v z)
+        go (inr z) =
+            let y = hears t p k e v (f .leading) r in
+            inr (below (same? (v .ballot) (before t .sent)), (p, record { member = y .member; promised = y .tells .promised; under = y .tells .under; cast = ext t .keeps p z }))
           where
             below : (v .ballot ≡ before t .sent) ⊎ (v .ballot ≡ before t .sent → ⊥) → v .ballot < before t .sent
-            below (inl y) = absurd (unproposed k v q y z)
+            below (inl y) = absurd (unproposed k v q y (t .sound .from p k v z))
             below (inr y) = let w = hears t p k e v (f .leading) r .tells .low in omega arith
 
-    pub mid-noting : Noting (next t) (before t .sent) (before t .trigger) mid
+    pub mid-noting : Noting (next t) (before t .group) (before t .sent) (before t .trigger) mid
     mid-noting =
         record {
           promised = λ k p l q h. noted-promised k p l q (f .noted k q) h;
@@ -166,7 +168,7 @@ module _ {size : ℕ} {present : ℕ → Bool} {g : Scene} (t : Move size presen
         go (inr z) = counts-mid p z
 
     -- ── after the call: what is Preparing still is as it was heard ──
-    after-noting : Noting (next t) (before t .sent) (before t .trigger) (t .after .slot)
+    after-noting : Noting (next t) (before t .group) (before t .sent) (before t .trigger) (t .after .slot)
     after-noting =
         record {
           promised = λ k p l q h. (let (a, n, _, _) = f .after k q in mid-noting .promised k p l a (subst (λ (x : ℕ). has x p ≡ true) n h));
@@ -203,8 +205,9 @@ module _ {size : ℕ} {present : ℕ → Bool} {g : Scene} (t : Move size presen
     goes-on : Leading (next t) (t .after)
     goes-on =
         record {
-          noting = subst (λ (b : ℕ). Noting (next t) b (t .after .trigger) (t .after .slot)) (sym (f .sent))
-              (subst (λ (n : ℕ). Noting (next t) (before t .sent) n (t .after .slot)) (sym (f .trigger)) after-noting);
+          noting = subst (λ (n : ℕ). Noting (next t) n (t .after .sent) (t .after .trigger) (t .after .slot)) (sym (t .frame .group))
+              (subst (λ (b : ℕ). Noting (next t) (before t .group) b (t .after .trigger) (t .after .slot)) (sym (f .sent))
+              (subst (λ (n : ℕ). Noting (next t) (before t .group) (before t .sent) n (t .after .slot)) (sym (f .trigger)) after-noting));
           counts = λ p h. renamed p (after-stands p (mid-counts p h));
           most = λ e. (let (set, j, s) = mid-most (e ∙ f .sent) in (set, subst (λ (n : ℕ). Majority n set) (sym (t .frame .group)) j, λ p h. renamed p (after-stands p (s p h))));
         }

@@ -119,7 +119,7 @@ leads-step r room c a = go c
     go (callPrepareReply peer m) =
         prepare-reply-way (leadsAfter (sightOf r) (callPrepareReply peer m)) r room peer m (λ n l u. quiet _)
         (λ f. reply-leads r (r .window) (r .sc .«commit_bar») (callPrepareReply peer m) peer (cleanReply m) (a .reached .whole) (fit-facts r (f .fits) .numbers .window) (a .kind) refl
-        (λ i. refl) (busy-low r a) (f .peer-is .member) (within r (f .fits)) (λ q. replied-peer m refl (f .peer-is .other) refl refl (q .sent) refl))
+        (λ i. refl) (busy-low r a) (f .peer-is .member) (within r (f .fits)) (λ q. replied-peer m refl (f .peer-is .member) (f .peer-is .other) refl refl (q .sent) refl))
     -- self follows another; the accept entry is at that ballot
     go (callAccept peer slot ballot b) =
         acceptStep-ways (of (leadsAfter (sightOf r) (callAccept peer slot ballot b))) r room peer slot ballot b (λ n l. quiet _) (λ f. accept-leads r peer slot ballot b a f)

@@ -42,7 +42,7 @@ use Rattle.agreement.specs.Group.{upd-same, upd-other, each as each-member, inv
 use Rattle.safety.specs.Sight.{sightOf, Able}
 use Rattle.safety.specs.Able.{able-step, able-new, fine-of, every-slot}
 use Rattle.safety.specs.Frames.{keeps-to}
-use Rattle.safety.specs.Scene.{Scene, HasPromised, Voted, Lasts, Issued, Fixed, Brought, received-brought, completions, acted}
+use Rattle.safety.specs.Scene.{Scene, HasPromised, Cast, Voted, Lasts, Issued, Fixed, Brought, received-brought, completions, acted}
 use Rattle.safety.specs.Alone.{Alone}
 use Rattle.safety.specs.Lawfully.{member, lawful}
 use Rattle.safety.specs.Rows.{Sound}
@@ -248,13 +248,13 @@ module _ (g : Group) (kind : g .strict ≡ true) where
 
 -- ── what follows in a sound scene ──
 module _ (size : ℕ) (few : size ≤ 9) (present : ℕ → Bool) (s : Scene) (i : Sound size present s) where
-  law : (k : ℕ) → Lawful size (HasPromised s) (Lasts s k) (Voted s k) (Issued s k)
+  law : (k : ℕ) → Lawful size (HasPromised s) (Lasts s k) (Voted s k) (Cast s k) (Issued s k)
   law k = lawful present s (i .alone) (i .nothing) (i .from) size k (i .obeys k)
 
   -- "Only a single value is chosen"
   pub fixed-same : (k b b′ : ℕ) (e e′ : Batch) → Fixed size s k b e → Fixed size s k b′ e′ → e ≡ e′
   fixed-same k b b′ e e′ (x, _, q, c) (x′, _, q′, c′) =
-      sym q ∙ chosen-agree size few (HasPromised s) (Lasts s k) (Voted s k) (Issued s k) (law k) x x′ c c′ ∙ q′
+      sym q ∙ chosen-agree size few (HasPromised s) (Lasts s k) (Voted s k) (Cast s k) (Issued s k) (law k) x x′ c c′ ∙ q′
 
   -- an Accept that was sent for a slot that a member has committed, at no smaller ballot, names its batch
   pub accept-same : (m : ℕ) → present m ≡ true → (p k b : ℕ) (e : Batch) → acceptSent k b e ∈ s .did p → 3 ≤ s .sight m .slot k .status → s .sight m .slot k .ballot ≤ b
@@ -262,7 +262,7 @@ module _ (size : ℕ) (few : size ≤ 9) (present : ℕ → Bool) (s : Scene) (i
   accept-same m l p k b e h u v =
       let (o, y, tidy) = i .alone p (member present s (i .alone) (i .nothing) p h) .local .said k b e h in
       let (x, w, q, c) = i .done m l k u in
-      tidy ∙ chosen-fixes size few (HasPromised s) (Lasts s k) (Voted s k) (Issued s k) (law k) x c (record { ballot = b; batch = e }) (p, o, y) (omega arith) ∙ q
+      tidy ∙ chosen-fixes size few (HasPromised s) (Lasts s k) (Voted s k) (Cast s k) (Issued s k) (law k) x c (record { ballot = b; batch = e }) (p, o, y) (omega arith) ∙ q
 
 -- ── the theorem ──
 pub group-few : (g : Group) (m : ℕ) → g .present m ≡ true → g .size ≤ 9

@@ -6,10 +6,9 @@ use mathlib.Core.List.{List}
 use Prim.Native.Nat.{ℕ}
 use native.Mathlib.Omega.{arith}
 use Rattle.base.specs.Among.{all-in}
-use Rattle.slots.specs.declared.Vote.{Vote}
 use Rattle.replica.specs.declared.Done.{Done}
-use Rattle.voting.specs.Paper.{OnlyOne, OnlyChosenLearned, P2}
-use Rattle.voting.specs.Core.{Lawful, Obeys, chosen-fixes, chosen-agree, chosen-issued}
+use Rattle.voting.specs.Paper.{OnlyOne, OnlyChosenLearned, P2, P2c}
+use Rattle.voting.specs.Core.{Lawful, chosen-fixes, chosen-agree, chosen-issued, obeys-p2c}
 use Rattle.agreement.specs.Theorem.{Group, World}
 use Rattle.safety.specs.ForGood.{Comes}
 use Rattle.agreement.specs.Worlds.{accepted, issued, learned}
@@ -29,10 +28,10 @@ module _ (g : Group) (kind : g .strict ≡ true) (w : World) (r : Comes g w) whe
   sound = sound-in g kind w r .1
 
   -- of all that was written, whether or not it was reported durable
-  law : (s : ℕ) → Lawful (g .size) (HasPromised scene) (accepted w s) (accepted w s) (Issued scene s)
+  law : (s : ℕ) → Lawful (g .size) (HasPromised scene) (accepted w s) (accepted w s) (accepted w s) (Issued scene s)
   law s =
       let l = lawful (g .present) scene (sound .sound .alone) (sound .sound .nothing) (sound .sound .from) (g .size) s (sound .sound .obeys s) in
-      record { standing = λ m x y. y; told = l .told; one = l .one; obeys = l .obeys }
+      record { standing = λ m x y. y; written = λ m x y. y; told = l .told; one = l .one; obeys = l .obeys }
 
   -- 2.1: "A process never learns that a value has been chosen unless it actually has been"
   pub only-chosen-learned : (s : ℕ) → OnlyChosenLearned (g .size) (accepted w s) (learned w s)
@@ -40,21 +39,23 @@ module _ (g : Group) (kind : g .strict ≡ true) (w : World) (r : Comes g w) whe
       let (x, _, q, (set, j, h)) = all-in (MarkFixed g kind scene) (sound .marks) i in
       (x, (set, j, λ p a. h p a .0), q)
 
-  -- 2.2, P2c: each proposal for which an Accept was sent obeys it (`Obeys`)
-  pub proposals-obey : (s : ℕ) (v : Vote) → issued w s v → Obeys (g .size) (HasPromised scene) (accepted w s) (Issued scene s) v
-  proposals-obey s v (p, i) =
+  -- 2.2, P2c: a proposal is issued where an Accept was sent for it
+  pub p2c-kept : (s : ℕ) → P2c (g .size) (accepted w s) (issued w s)
+  p2c-kept s =
+      obeys-p2c (g .size) (HasPromised scene) (accepted w s) (issued w s)
+      (λ v (p, i).
       let (o, y, _) = sound .sound .alone p (member (g .present) scene (sound .sound .alone) (sound .sound .nothing) p i) .local .said s (v .ballot) (v .batch) i in
-      sound .sound .obeys s v (p, o, y)
+      sound .sound .obeys s v (p, o, y))
 
   -- of a group that has a member
   module _ (m : ℕ) (p : g .present m ≡ true) where
     -- 2.1: "Only a single value is chosen"
     pub only-one : (s : ℕ) → OnlyOne (g .size) (accepted w s)
-    only-one s = chosen-agree (g .size) (group-few g m p) (HasPromised scene) (accepted w s) (accepted w s) (Issued scene s) (law s)
+    only-one s = chosen-agree (g .size) (group-few g m p) (HasPromised scene) (accepted w s) (accepted w s) (accepted w s) (Issued scene s) (law s)
 
     -- 2.2, P2
     pub higher-same : (s : ℕ) → P2 (g .size) (accepted w s)
     higher-same s v v′ c c′ l =
         let few = group-few g m p in
-        chosen-fixes (g .size) few (HasPromised scene) (accepted w s) (accepted w s) (Issued scene s) (law s) v c v′
-        (chosen-issued (g .size) few (HasPromised scene) (accepted w s) (accepted w s) (Issued scene s) (law s) v′ c′) (omega arith)
+        chosen-fixes (g .size) few (HasPromised scene) (accepted w s) (accepted w s) (accepted w s) (Issued scene s) (law s) v c v′
+        (chosen-issued (g .size) few (HasPromised scene) (accepted w s) (accepted w s) (accepted w s) (Issued scene s) (law s) v′ c′) (omega arith)

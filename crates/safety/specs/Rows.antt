@@ -19,29 +19,36 @@ use Rattle.voting.specs.StrictVotes.{entryOf}
 use Rattle.agreement.specs.Frame.{Owns}
 use Rattle.agreement.specs.StrictTells.{toldVote}
 use Rattle.safety.specs.Sight.{Sight, notes, acks, highest, counted}
-use Rattle.safety.specs.Scene.{Scene, HasPromised, Voted, Lasts, Issued, NoneBelow, Fixed, deed}
+use Rattle.safety.specs.Scene.{Scene, HasPromised, Cast, Voted, Lasts, Issued, NoneBelow, Fixed, deed}
 use Rattle.safety.specs.Alone.{Alone}
 
 -- what p's answer for slot s at ballot b, telling a vote, says and goes on to say: p has promised b; its votes in s below b are not above the vote told, which
--- was issued if it is one
+-- it cast if it is one
 pub record Tells (g : Scene) (p s b : ℕ) (vote : Vote) : Type 0 where
   pub promised : HasPromised g p b
   pub under : (x : Vote) → Voted g s p x → x .ballot < b → x .ballot ≤ vote .ballot
   pub low : vote .ballot ≤ b
-  pub value : (vote .ballot ≡ 0) ⊎ Issued g s vote
+  pub value : (vote .ballot ≡ 0) ⊎ Cast g s p vote
 
 -- and a PrepareReply with endprep e: past e it has no vote below b
 pub record Told (g : Scene) (p s e b : ℕ) (vote : Vote) : Type 0 where
   pub tells : Tells g p s b vote
   pub clear : (k : ℕ) → e < k → NoneBelow g p k b
 
+-- q told of the largest vote heard for slot k in a lead at `sent`: it cast it, has promised, and has no vote between the two
+pub record Teller (g : Scene) (group sent k : ℕ) (vote : Vote) (q : ℕ) : Type 0 where
+  pub member : q < group
+  pub promised : HasPromised g q sent
+  pub under : (x : Vote) → Voted g k q x → x .ballot < sent → x .ballot ≤ vote .ballot
+  pub cast : Cast g k q vote
+
 -- at a leader, at its ballot `sent` and from its trigger on: whoever is noted at a Preparing slot has promised, and has no vote below that is above the
--- largest heard; the largest heard is none, or was issued below with the batch that the slot has
-pub record Noting (g : Scene) (sent trigger : ℕ) (slot : ℕ → Slot) : Type 0 where
+-- largest heard; the largest heard is none, or is below and some member cast it, with the batch that the slot has
+pub record Noting (g : Scene) (group sent trigger : ℕ) (slot : ℕ → Slot) : Type 0 where
   pub promised : (k p : ℕ) → trigger ≤ k → slot k .status ≡ 1 → has (notes (slot k)) p ≡ true → HasPromised g p sent
   pub under : (k p : ℕ) → trigger ≤ k → slot k .status ≡ 1 → has (notes (slot k)) p ≡ true → (x : Vote) → Voted g k p x → x .ballot < sent → x .ballot ≤ highest (slot k)
   pub value : (k : ℕ) → trigger ≤ k → slot k .status ≡ 1
-      → (highest (slot k) ≡ 0) ⊎ ((highest (slot k) < sent) × Issued g k (record { ballot = highest (slot k); batch = slot k .batch }))
+      → (highest (slot k) ≡ 0) ⊎ ((highest (slot k) < sent) × ((q : ℕ) × Teller g group sent k (record { ballot = highest (slot k); batch = slot k .batch }) q))
 
 -- p stands behind what the leader proposes: it has promised; at each Preparing slot it is noted or has no vote below; past the log end it has none
 pub record Stands (g : Scene) (sent trigger stop : ℕ) (slot : ℕ → Slot) (p : ℕ) : Type 0 where
@@ -51,7 +58,7 @@ pub record Stands (g : Scene) (sent trigger stop : ℕ) (slot : ℕ → Slot) (p
 
 -- of a leader: so do all that are counted; and where its ballot is prepared, some majority does, for good
 pub record Leading (g : Scene) (v : Sight) : Type 0 where
-  pub noting : Noting g (v .sent) (v .trigger) (v .slot)
+  pub noting : Noting g (v .group) (v .sent) (v .trigger) (v .slot)
   pub counts : (p : ℕ) → has (counted v) p ≡ true → Stands g (v .sent) (v .trigger) (v .stop) (v .slot) p
   pub most : v .prepared ≡ v .sent → (set : ℕ) × Majority (v .group) set × ((p : ℕ) → has set p ≡ true → Stands g (v .sent) (v .trigger) (v .stop) (v .slot) p)
 
@@ -70,7 +77,7 @@ pub record Sound (size : ℕ) (present : ℕ → Bool) (g : Scene) : Type 0 wher
   pub acked : (m : ℕ) → present m ≡ true → g .sight m .leading ≡ true → (s p : ℕ) → g .sight m .slot s .ballot ≡ g .sight m .sent → has (acks (g .sight m .slot s)) p ≡ true
       → (x : Vote) × (x .ballot ≡ g .sight m .slot s .ballot) × Lasts g s p x
   -- 2.2, P2c
-  pub obeys : (s : ℕ) (x : Vote) → Issued g s x → Obeys size (HasPromised g) (Voted g s) (Issued g s) x
+  pub obeys : (s : ℕ) (x : Vote) → Issued g s x → Obeys size (HasPromised g) (Cast g s) (Voted g s) x
   -- what a leader proposed at the ballot of a CommitNotice, below the bar told, is chosen
   pub notice : (p : ℕ) (a : Notice) (keys : List ℕ) → deed (CommitNotice a) keys ∈ g .did p
       → Owns p (a .ballot) × ((s : ℕ) (x : Vote) → s < a .bar → x .ballot ≡ a .ballot → entryOf s x ∈ g .did p → Fixed size g s (x .ballot) (x .batch))

@@ -52,7 +52,10 @@ PromisedIn reported n = (d : Done) × (d ∈ reported) × (promises (d .entry) �
 abbrev pub HasPromised : Scene → ℕ → ℕ → Type 0
 HasPromised g m n = PromisedIn (g .reported m) n
 
--- "accepts": the vote stands in m's log; it lasts where its accept entry was reported
+-- "accepts": the vote was cast; it stands in m's log; it lasts where its accept entry was reported
+abbrev pub Cast : Scene → ℕ → ℕ → Vote → Type 0
+Cast g s m x = entryOf s x ∈ g .did m
+
 abbrev pub Voted : Scene → ℕ → ℕ → Vote → Type 0
 Voted g s m x = entryOf s x ∈ g .log m
 

@@ -87,7 +87,7 @@ abbrev pub counted : Sight → ℕ
 counted v = v .slot (v .trigger) .leader .«prepare_acks»
 
 -- of a replica alone after any calls: who leads leads at a ballot of its own, which is the largest seen; no slot is above it, a leader's Preparing and
--- Accepting slots are at it; past the log end slots are null, and commit_bar is not past it
+-- Accepting slots are at it; past the log end slots are null, and commit_bar is not past it; it is of a group of at most nine
 pub record Fine (v : Sight) : Type 0 where
   pub sent : v .leading ≡ true → v .sent ≡ v .seen
   pub own : v .leading ≡ true → Owns (v .me) (v .seen)
@@ -95,6 +95,8 @@ pub record Fine (v : Sight) : Type 0 where
   pub busy : v .leading ≡ true → (s : ℕ) → 1 ≤ v .slot s .status → v .slot s .status < 3 → v .slot s .ballot ≡ v .seen
   pub past : (s : ℕ) → v .stop ≤ s → v .slot s ≡ nullSlot
   pub within : v .bar ≤ v .stop
+  pub member : v .me < v .group
+  pub few : v .group ≤ 9
 
 -- ── what a call brings ──
 -- the vote that a reply tells; none where it tells none
@@ -103,7 +105,7 @@ heardVote m = pick (m .voted) (record { ballot = m .vote .ballot; batch = clean 
 
 -- p's reply for slot s with endprep e and a vote, of this lead: a message at bal_prep_sent; or self's own prepare entry, "self uses its own endprep"
 pub data Replied (v : Sight) (c : Call) (p s e : ℕ) (vote : Vote) : Type 0 where
-  replied-peer : (m : Reply) → c ≡ callPrepareReply p m → (p ≡ v .me → ⊥) → m .slot ≡ s → m .endprep ≡ e → m .ballot ≡ v .sent → vote ≡ heardVote m → Replied v c p s e vote
+  replied-peer : (m : Reply) → c ≡ callPrepareReply p m → p < v .group → (p ≡ v .me → ⊥) → m .slot ≡ s → m .endprep ≡ e → m .ballot ≡ v .sent → vote ≡ heardVote m → Replied v c p s e vote
   replied-own : (size : ℕ) → p ≡ v .me → c ≡ callLogged (completion PrepareEntry s (v .sent) size) → v .slot s .ballot ≡ v .sent → v .slot s .leader .endprep ≡ e
       → vote ≡ sentVote (v .slot s) → Replied v c p s e vote
 

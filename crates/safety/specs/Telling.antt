@@ -28,10 +28,10 @@ use Rattle.voting.specs.StrictVotes.{entryOf}
 use Rattle.agreement.specs.Frame.{Owns, Clean}
 use Rattle.agreement.specs.StrictTells.{toldVote}
 use Rattle.safety.specs.Sight.{heardVote, Replied, replied-peer, replied-own, Answers, Says}
-use Rattle.safety.specs.Scene.{Scene, Lasts, Issued, NoneBelow, ReplySent, replyOf, Brought, completions, done-in, new-reported, did-cases, old-log, deed}
+use Rattle.safety.specs.Scene.{Scene, Cast, Lasts, NoneBelow, ReplySent, replyOf, Brought, completions, done-in, new-reported, did-cases, old-log, deed}
 use Rattle.safety.specs.Alone.{NoneIn}
 use Rattle.safety.specs.Rows.{Tells, Told}
-use Rattle.safety.specs.Growth.{told-ext, tells-ext, none-ext, issued-ext}
+use Rattle.safety.specs.Growth.{told-ext, tells-ext, none-ext}
 use Rattle.safety.specs.Moves.{Move, before, next, one, me, member-of, ext, promised-now, own-below, own-none}
 
 module _ {size : ℕ} {present : ℕ → Bool} {g : Scene} (t : Move size present g) where
@@ -49,16 +49,16 @@ module _ {size : ℕ} {present : ℕ → Bool} {g : Scene} (t : Move size presen
         promised = promised-now t (completion PrepareEntry s b size) c refl;
         under = λ x a l. below x l (own-below t s b x (seen-after s b at) a);
         low = sent-vote (before t .slot s) (λ (y : Vote). y .ballot ≤ b) (let y = one t .low s in omega arith) (λ _. omega arith);
-        value = sent-vote (before t .slot s) (λ (y : Vote). (y .ballot ≡ 0) ⊎ Issued (next t) s y) (mine (one t .mine s)) (λ _. inl refl);
+        value = sent-vote (before t .slot s) (λ (y : Vote). (y .ballot ≡ 0) ⊎ Cast (next t) s (t .who) y) (mine (one t .mine s)) (λ _. inl refl);
       }
     where
       below : (x : Vote) → x .ballot < b → (entryOf s x ∈ g .log (t .who)) ⊎ (b ≤ x .ballot) → x .ballot ≤ sentVote (before t .slot s) .ballot
       below x l (inr y) = absurd (omega arith)
       below x l (inl y) = let z = one t .top s x y in sent-vote (before t .slot s) (λ (y : Vote). x .ballot ≤ y .ballot) z (λ q. omega arith)
 
-      mine : (before t .slot s .vote .ballot ≡ 0) ⊎ (entryOf s (before t .slot s .vote) ∈ g .log (t .who)) → (before t .slot s .vote .ballot ≡ 0) ⊎ Issued (next t) s (before t .slot s .vote)
+      mine : (before t .slot s .vote .ballot ≡ 0) ⊎ (entryOf s (before t .slot s .vote) ∈ g .log (t .who)) → (before t .slot s .vote .ballot ≡ 0) ⊎ Cast (next t) s (t .who) (before t .slot s .vote)
       mine (inl z) = inl z
-      mine (inr z) = inr (issued-ext (ext t) s _ (t .sound .from (t .who) s _ (one t .local .stands z)))
+      mine (inr z) = inr (ext t .keeps (t .who) (one t .local .stands z))
 
   -- its prepare entry stands
   promised-before : (s b size : ℕ) → t .call ≡ callLogged (completion PrepareEntry s b size) → promise s b ∈ g .log (t .who)
@@ -113,19 +113,20 @@ module _ {size : ℕ} {present : ℕ → Bool} {g : Scene} (t : Move size presen
       go l (inl z) = absurd (omega arith)
       go l (inr z) = subst (λ (b : Batch). P (record { ballot = a .voted; batch = b })) (sym z) some
 
-  -- what was issued has a clean batch
-  clean-issued : (s : ℕ) (v : Vote) → (v .ballot ≡ 0) ⊎ Issued g s v → (v .ballot ≡ 0) ⊎ Clean (v .batch)
-  clean-issued s v (inl z) = inl z
-  clean-issued s v (inr (p, o, m)) = inr (t .sound .alone p (member-of t p m) .tidy s v m .0)
+  -- what was cast has a clean batch
+  clean-cast : (s p : ℕ) (v : Vote) → (v .ballot ≡ 0) ⊎ Cast g s p v → (v .ballot ≡ 0) ⊎ Clean (v .batch)
+  clean-cast s p v (inl z) = inl z
+  clean-cast s p v (inr m) = inr (t .sound .alone p (member-of t p m) .tidy s v m .0)
 
   tells-none : (p s b : ℕ) (v : Vote) → v .ballot ≡ 0 → Tells g p s b v → Tells g p s b noVote
   tells-none p s b v z y = record { promised = y .promised; under = λ x a l. (let q = y .under x a l in omega arith); low = omega arith; value = inl refl }
 
-  -- p's reply in this lead: what it tells is so, of a vote that was issued before; and past its endprep p has no vote below the ballot, in a slot that was
+  -- p's reply in this lead: what it tells is so, of a vote that it cast before; and past its endprep p has no vote below the ballot, in a slot that was
   -- Preparing or past the log end
   pub record Hears (p s e : ℕ) (vote : Vote) : Type 0 where
     pub tells : Tells (next t) p s (before t .sent) vote
-    pub before-it : (vote .ballot ≡ 0) ⊎ Issued g s vote
+    pub member : p < before t .group
+    pub before-it : (vote .ballot ≡ 0) ⊎ Cast g s p vote
     pub clear : (k : ℕ) → e < k → (before t .slot k .status ≡ 1) ⊎ (before t .stop ≤ k) → NoneBelow (next t) p k (before t .sent)
 
   pub hears : (p s e : ℕ) (vote : Vote) → before t .leading ≡ true → Replied (before t) (t .call) p s e vote → Hears p s e vote
@@ -133,18 +134,21 @@ module _ {size : ℕ} {present : ℕ → Bool} {g : Scene} (t : Move size presen
       subst (λ (j : ℕ). Hears j s e vote) (sym (q ∙ me t))
       (record {
         tells = subst (Tells (next t) (t .who) s (before t .sent)) (sym v) (tells s (before t .sent) size c at);
-        before-it = subst (λ (x : Vote). (x .ballot ≡ 0) ⊎ Issued g s x) (sym v) (sent-vote (before t .slot s) (λ (y : Vote). (y .ballot ≡ 0) ⊎ Issued g s y) (mine (one t .mine s)) (λ _. inl refl));
+        member = subst (λ (j : ℕ). j < before t .group) (me t) (one t .fine .member);
+        before-it =
+            subst (λ (x : Vote). (x .ballot ≡ 0) ⊎ Cast g s (t .who) x) (sym v)
+            (sent-vote (before t .slot s) (λ (y : Vote). (y .ballot ≡ 0) ⊎ Cast g s (t .who) y) (mine (one t .mine s)) (λ _. inl refl));
         clear = λ k l w. own-none t k (before t .sent) (seen-after s (before t .sent) at) (none k l w);
       })
     where
-      mine : (before t .slot s .vote .ballot ≡ 0) ⊎ (entryOf s (before t .slot s .vote) ∈ g .log (t .who)) → (before t .slot s .vote .ballot ≡ 0) ⊎ Issued g s (before t .slot s .vote)
+      mine : (before t .slot s .vote .ballot ≡ 0) ⊎ (entryOf s (before t .slot s .vote) ∈ g .log (t .who)) → (before t .slot s .vote .ballot ≡ 0) ⊎ Cast g s (t .who) (before t .slot s .vote)
       mine (inl z) = inl z
-      mine (inr z) = inr (t .sound .from (t .who) s _ (one t .local .stands z))
+      mine (inr z) = inr (one t .local .stands z)
 
       none : (k : ℕ) → e < k → (before t .slot k .status ≡ 1) ⊎ (before t .stop ≤ k) → NoneIn (g .log (t .who)) k (before t .sent)
       none k l (inl w) = one t .ends lead s (promised-before s (before t .sent) size c) k (omega arith) w
       none k l (inr w) = λ x m. let z = one t .used k x m in absurd (omega (arith, ap (λ (y : Slot). y .status) (one t .fine .past k w)))
-  hears p s e vote lead (replied-peer m c other at ends b v) = heard (subst (Brought g (t .who)) c (t .brought))
+  hears p s e vote lead (replied-peer m c in-group other at ends b v) = heard (subst (Brought g (t .who)) c (t .brought))
     where
       heard : ReplySent g p m → Hears p s e vote
       heard r =
@@ -160,13 +164,14 @@ module _ {size : ℕ} {present : ℕ → Bool} {g : Scene} (t : Move size presen
           subst (λ (n : ℕ). Told g p n e (before t .sent) (toldVote a keys)) s′
           (subst (λ (n : ℕ). Told g p (a .slot) n (before t .sent) (toldVote a keys)) e′ (subst (λ (n : ℕ). Told g p (a .slot) (a .endprep) n (toldVote a keys)) b′ y)) in
           let w = sym (v ∙ ap heardVote (r .is)) in
-          let tidy = clean-issued s (toldVote a keys) (x .tells .value) in
+          let tidy = clean-cast s p (toldVote a keys) (x .tells .value) in
           record {
             tells =
                 tells-ext (ext t) p s (before t .sent) vote
                 (subst (Tells g p s (before t .sent)) w
                 (heard-told a keys tidy (Tells g p s (before t .sent)) (λ z. tells-none p s (before t .sent) (toldVote a keys) z (x .tells)) (x .tells)));
+            member = in-group;
             before-it =
-                subst (λ (y : Vote). (y .ballot ≡ 0) ⊎ Issued g s y) w (heard-told a keys tidy (λ (y : Vote). (y .ballot ≡ 0) ⊎ Issued g s y) (λ _. inl refl) (x .tells .value));
+                subst (λ (y : Vote). (y .ballot ≡ 0) ⊎ Cast g s p y) w (heard-told a keys tidy (λ (y : Vote). (y .ballot ≡ 0) ⊎ Cast g s p y) (λ _. inl refl) (x .tells .value));
             clear = λ k l _. none-ext (ext t) p k (before t .sent) (x .tells .promised) (x .clear k l);
           }

@@ -14,7 +14,7 @@ use Rattle.base.specs.Pick.{decide, clash, or-cases, and-both, tests}
 use Rattle.base.specs.Among.{_∈_, All, all-in}
 use Rattle.base.specs.Gather.{gather, all-gather}
 use Rattle.base.specs.Find.{any-false}
-use Rattle.members.specs.Sets.{has, insert}
+use Rattle.members.specs.Sets.{has, insert, fitsGroup}
 use Rattle.members.specs.Laws.{has-none, has-member, has-insert, insert-full, insert-past, within-insert, within-small, count-new, count-again}
 use Rattle.batch.specs.declared.Batch.{Batch}
 use Rattle.actions.specs.declared.Action.the-variants.{Accept}
@@ -194,6 +194,10 @@ insert-keeps set p q h = go (decide (ltb 511 set)) (decide (ltb 8 p))
         or-one : (t : Bool) → (t || true) ≡ true
         or-one true = refl
         or-one false = refl
+
+-- who is put in is in
+pub insert-has : (group set p : ℕ) → group ≤ 9 → p < group → fitsGroup set group ≡ true → has (insert set p) p ≡ true
+insert-has group set p g l f = has-insert set p p (within-small set group g f) (omega arith) (omega arith) ∙ rw (eq-eqb p p refl)
 
 pub insert-majority : (group set p : ℕ) → group ≤ 9 → p < group → Majority group set → Majority group (insert set p)
 insert-majority group set p g l m = go (decide (has set p))

@@ -16,15 +16,15 @@ use Rattle.voting.specs.Core.{Lawful, chosen-fixes, chosen-issued, p2c-o
 module _ (group : ℕ) (accepted : ℕ → Vote → Type 0) (issued : Vote → Type 0) (few : group ≤ 9) (told : (m : ℕ) (v : Vote) → accepted m v → issued v)
     (one : (v v′ : Vote) → issued v → issued v′ → v .ballot ≡ v′ .ballot → v .batch ≡ v′ .batch) (c : P2c group accepted issued) where
   -- whatever is promised
-  lawful : Lawful group (λ m n. Unit {0}) accepted accepted issued
-  lawful = record { standing = λ m v a. a; told = told; one = one; obeys = p2c-obeys group (λ m n. Unit {0}) accepted issued told c (λ p i m h. tt) }
+  lawful : Lawful group (λ m n. Unit {0}) accepted accepted accepted issued
+  lawful = record { standing = λ m v a. a; written = λ m v a. a; told = told; one = one; obeys = p2c-obeys group (λ m n. Unit {0}) accepted issued c (λ p i m h. tt) }
 
   -- P2b: "If a proposal with value v is chosen, then every higher-numbered proposal issued by any proposer has value v"
   pub p2c-implies-p2b : (v p : Vote) → Chosen group accepted v → issued p → v .ballot < p .ballot → p .batch ≡ v .batch
-  p2c-implies-p2b v p k i l = chosen-fixes group few (λ m n. Unit {0}) accepted accepted issued lawful v k p i (omega arith)
+  p2c-implies-p2b v p k i l = chosen-fixes group few (λ m n. Unit {0}) accepted accepted accepted issued lawful v k p i (omega arith)
 
   pub p2c-implies-p2 : P2 group accepted
-  p2c-implies-p2 v v′ k k′ l = p2c-implies-p2b v v′ k (chosen-issued group few (λ m n. Unit {0}) accepted accepted issued lawful v′ k′) l
+  p2c-implies-p2 v v′ k k′ l = p2c-implies-p2b v v′ k (chosen-issued group few (λ m n. Unit {0}) accepted accepted accepted issued lawful v′ k′) l
 
 -- "condition P2 guarantees the crucial safety property that only a single value is chosen"
 module _ (group : ℕ) (accepted : ℕ → Vote → Type 0) (few : group ≤ 9)
