@@ -15,7 +15,7 @@ use Rattle.replica.specs.declared.Entry.{Entry}
 use Rattle.replica.specs.declared.Entry.the-variants.{PrepareBal, AcceptData, CommitSlot}
 use Rattle.replica.specs.declared.Done.{Done}
 use Rattle.replica.specs.Step.{Call, callTimeout, callLogged, callOffer, callExecuted, callOpenRead, callReadReply, step, received}
-use Rattle.agreement.specs.Theorem.{Group, Mark, World, put, begin, May, timer, offer, logged, execution, opening, replied, message, refused, Reach, begins, turn, acceptEntry, commitEntry}
+use Rattle.agreement.specs.Theorem.{Group, Mark, World, put, begin, acceptEntry, commitEntry}
 
 -- an entry of this kind, for this slot and with this ballot stands in what a member did
 abbrev pub EntryIn : List Act → Entry → ℕ → ℕ → Type 0
@@ -53,21 +53,3 @@ pub record ForGood (g : Group) (w : World) : Type 0 where
 -- the theorem
 abbrev pub OneSlotOneBatch : Type 0
 OneSlotOneBatch = (g : Group) → g .strict ≡ true → (w : World) → Comes g w → ForGood g w
-
--- ── these runs are among demand 3's ──
-happens-may : (w : World) (m room : ℕ) (c : Call) → Happens w m c → May w m room c
-happens-may w m room _ (timer-fires source) = timer source
-happens-may w m room _ (batch-comes b) = offer b
-happens-may w m room _ (entry-done d _) = logged d
-happens-may w m room _ (batch-executed slot) = execution slot
-happens-may w m room _ (read-opened id count keys) = opening id count keys
-happens-may w m room _ (read-replied peer id fromLeader reply) = replied peer id fromLeader reply
-happens-may w m room _ (message-comes from a c h i) = message from a c h i
-
-event-may : (w : World) (m room : ℕ) (c : Call) → Event w m room c → May w m room c
-event-may w m room c (real h) = happens-may w m room c h
-event-may w m room c (turned-away n k) = refused c n k
-
-pub comes-reach : (g : Group) (w : World) → Comes g w → Reach g w
-comes-reach g w starts = begins
-comes-reach g w (goes {w = u} r m p room c e) = turn (comes-reach g u r) m p room c (event-may u m room c e)

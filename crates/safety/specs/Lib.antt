@@ -33,4 +33,6 @@ pub mod Learning
 pub mod Steps
 pub mod Proof
 pub mod Requirements
+pub mod HonestRuns
 pub mod FiveRun
+pub mod BaseBreaks

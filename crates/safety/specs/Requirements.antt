@@ -7,15 +7,40 @@ use Prim.Native.Nat.{ℕ}
 use native.Mathlib.Omega.{arith}
 use Rattle.base.specs.Among.{all-in}
 use Rattle.replica.specs.declared.Done.{Done}
+use Rattle.replica.specs.Step.{Call}
 use Rattle.voting.specs.Paper.{OnlyOne, OnlyChosenLearned, P2, P2c}
 use Rattle.voting.specs.Core.{Lawful, chosen-fixes, chosen-agree, chosen-issued, obeys-p2c}
-use Rattle.agreement.specs.Theorem.{Group, World}
-use Rattle.safety.specs.ForGood.{Comes}
+use Rattle.agreement.specs.Theorem.{Group, World, May, timer, offer, logged, execution, opening, replied, message, refused, Reach, begins, turn, Agreement}
+use Rattle.agreement.specs.Group.{agreement}
+use Rattle.safety.specs.ForGood.{Happens, timer-fires, batch-comes, entry-done, batch-executed, read-opened, read-replied, message-comes, Event, real, turned-away, Comes, starts, goes}
 use Rattle.agreement.specs.Worlds.{accepted, issued, learned}
 use Rattle.safety.specs.Scene.{Scene, HasPromised, Issued}
 use Rattle.safety.specs.Lawfully.{member, lawful}
 use Rattle.safety.specs.Proof.{sceneOf, group-few, SoundIn, MarkFixed, sound-in}
 
+-- ── these runs are among demand 3's ──
+happens-may : (w : World) (m room : ℕ) (c : Call) → Happens w m c → May w m room c
+happens-may w m room _ (timer-fires source) = timer source
+happens-may w m room _ (batch-comes b) = offer b
+happens-may w m room _ (entry-done d _) = logged d
+happens-may w m room _ (batch-executed slot) = execution slot
+happens-may w m room _ (read-opened id count keys) = opening id count keys
+happens-may w m room _ (read-replied peer id fromLeader reply) = replied peer id fromLeader reply
+happens-may w m room _ (message-comes from a c h i) = message from a c h i
+
+event-may : (w : World) (m room : ℕ) (c : Call) → Event w m room c → May w m room c
+event-may w m room c (real h) = happens-may w m room c h
+event-may w m room c (turned-away n k) = refused c n k
+
+pub comes-reach : (g : Group) (w : World) → Comes g w → Reach g w
+comes-reach g w starts = begins
+comes-reach g w (goes {w = u} r m p room c e) = turn (comes-reach g u r) m p room c (event-may u m room c e)
+
+-- so demand 3 holds of them, too
+pub demand-3 : (g : Group) (w : World) → Comes g w → Agreement w
+demand-3 g w r = agreement g w (comes-reach g w r)
+
+-- ── the paper's ──
 module _ (g : Group) (kind : g .strict ≡ true) (w : World) (r : Comes g w) where
   -- with whatever completions were reported
   abbrev pub reported : ℕ → List Done
