@@ -118,8 +118,18 @@ passed-moves r f =
     isDone : ℕ → Bool
     isDone i = leb committed (slotAt (r .window) i .status)
 
+-- so what it passes is in the log
+pub pass-within : (r : Replica) → FitNumbers (r .sc) (r .window .len) → (i : ℕ) → i < passStop r → i < r .window .len
+unfolding passStop
+pass-within r f i l =
+    omega (
+      arith,
+      f .accept-log,
+      scan-below (λ i. leb committed (slotAt (r .window) i .status)) (passFrom r) (place (r .sc) (r .sc .«accept_bar»)) (r .window .len) (omega (arith, f .log)) (omega (arith, f .accept-log)),
+    )
+
 -- the numbers of the replica with the size of its log
-logged-numbers : (r : Replica) (d : Done) → Logs r d → FitNumbers (logged r d .sc) (logged r d .window .len)
+pub logged-numbers : (r : Replica) (d : Done) → Logs r d → FitNumbers (logged r d .sc) (logged r d .window .len)
 unfolding loggedOn
 logged-numbers r d f =
     let n = fit-facts r (f .fits) .numbers in

@@ -7,7 +7,7 @@ use native.Mathlib.Omega.{arith}
 use Rattle.base.specs.Scan.{scan}
 use Rattle.members.specs.Sets.{has, insert, count, countIn}
 use Rattle.batch.specs.declared.Batch.{Batch}
-use Rattle.batch.specs.Batches.{emptyBatch, makeBatch}
+use Rattle.batch.specs.Batches.{emptyBatch, makeBatch, sameBatch}
 use Rattle.batch.specs.Keys.{placeIn, noteKey, noteKeys, newKeys, overfullIn}
 use Rattle.tally.specs.Merge.{merge}
 use Rattle.tally.specs.Open.{findRead, openRead, closeRead, putRead, replyTo, fitReads}
@@ -15,7 +15,7 @@ use Rattle.slots.specs.Slots.{fitSlot}
 use Rattle.decide.specs.Bars.{notAbove, leastMajority, withBar, withFallen}
 use Rattle.decide.specs.Decide.{decideAccept, decideAcceptReply, decideVote, decideCount, decidePromised, decideAccepted, decideOffer}
 use Rattle.decide.specs.Scalars.{fitScalars}
-use Rattle.window.specs.Counting.{counts}
+use Rattle.window.specs.Counting.{lacking, counts}
 use Rattle.window.specs.Window.{fitSlots, lastUsed, firstOpen, lastOpen, markStop, filled}
 use Rattle.window.specs.ByPlace.{atPlace}
 use Rattle.replica.specs.Record.{newReplica, noting, settled}
@@ -28,8 +28,6 @@ use Rattle.replica.specs.Added.{offerStep, movedExec, executedStep}
 use Rattle.agreement.specs.BySlot.{numbered}
 use Rattle.agreement.specs.Theorem.{Group, World, marksOf, upd, put, begin}
 use Rattle.agreement.specs.Runs.{play, happen, deliver, three, late, lateWorld, seven, mark, two-batches}
-use Rattle.batch.specs.Batches.{sameBatch}
-use Rattle.window.specs.Counting.{lacking}
 use Rattle.safety.specs.ForGood.{Comes, starts, ForGood}
 use Rattle.safety.specs.HonestRuns.{stands, isReal, honest, play-comes}
 

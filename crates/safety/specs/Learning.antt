@@ -12,14 +12,15 @@ use Rattle.base.specs.Among.{_∈_, all-in}
 use Rattle.members.specs.Sets.{has}
 use Rattle.batch.specs.declared.Batch.{Batch}
 use Rattle.actions.specs.declared.Notice.{Notice}
-use Rattle.actions.specs.declared.Action.the-variants.{CommitNotice}
+use Rattle.actions.specs.declared.Order.{Order}
+use Rattle.actions.specs.declared.Action.the-variants.{CommitNotice, Execute}
 use Rattle.actions.specs.Actions.{Act}
 use Rattle.slots.specs.declared.Vote.{Vote}
 use Rattle.voting.specs.Paper.{Majority}
 use Rattle.voting.specs.StrictVotes.{entryOf}
 use Rattle.agreement.specs.Theorem.{acceptEntry}
 use Rattle.agreement.specs.Frame.{Owns}
-use Rattle.safety.specs.Sight.{acks, Acked, acked-peer, acked-own, Marking, tallied, noticed, Marks, Notices, Says, Proposes, entered, offered, Lead, rose, on}
+use Rattle.safety.specs.Sight.{acks, Acked, acked-peer, acked-own, Marking, tallied, noticed, Marks, Notices, Executes, Says, Proposes, entered, offered, Lead, rose, on, ordered}
 use Rattle.safety.specs.Scene.{Scene, Lasts, Issued, Fixed, Brought, completions, old-did, did-cases, deed}
 use Rattle.safety.specs.Growth.{fixed-ext}
 use Rattle.safety.specs.Moves.{Move, before, next, one, one′, me, wrote, ext}
@@ -164,3 +165,17 @@ module _ {size : ℕ} {present : ℕ → Bool} {g : Scene} (t : Move size presen
       go : (deed (CommitNotice a) keys ∈ g .did p) ⊎ ((p ≡ t .who) × (deed (CommitNotice a) keys ∈ t .acts)) → Noticed p a
       go (inl y) = notice-old p a keys y
       go (inr (e, y)) = subst (λ (j : ℕ). Noticed j a) (sym e) (notice-new a keys y)
+
+  -- ── an Execute names the batch of a slot that was committed ──
+  pub executed-step : (m : ℕ) (o : Order) (keys : List ℕ) → deed (Execute o) keys ∈ next t .did m
+      → (b : ℕ) × Fixed size (next t) (o .slot) b (ordered o keys)
+  executed-step m o keys i = go (did-cases g (t .who) (t .after) (t .acts) (completions (t .call)) m i)
+    where
+      go : (deed (Execute o) keys ∈ g .did m) ⊎ ((m ≡ t .who) × (deed (Execute o) keys ∈ t .acts))
+          → (b : ℕ) × Fixed size (next t) (o .slot) b (ordered o keys)
+      go (inl y) = let (b, f) = t .sound .executed m o keys y in (b, fixed-ext (ext t) size (o .slot) b b _ (omega arith) f)
+      go (inr (_, y)) =
+          let z : Executes (before t) (o .slot) (ordered o keys) =
+          all-in (λ (x : Act). Says (before t) (t .call) (t .after) (x .keys) (x .what)) (t .frame .said) y in
+          let b : ℕ = before t .slot (o .slot) .ballot in
+          (b, fixed-ext (ext t) size (o .slot) b b _ (omega arith) (subst (Fixed size g (o .slot) b) (z .batch) (t .sound .done (t .who) (t .is) (o .slot) (z .done))))

@@ -169,6 +169,7 @@ module _ (g : Group) (kind : g .strict ≡ true) where
         acked = λ m p z. absurd (unled m p z);
         obeys = λ s x (p, _, i). absurd (none p i);
         notice = λ m a keys i. absurd (none m i);
+        executed = λ m o keys i. absurd (none m i);
         done = λ m p s l. absurd (omega (arith, ap (λ (x : Slot). x .status) (start-null m p s)));
       }
 

@@ -1,11 +1,13 @@
 -- What "Paxos Made Simple" requires of voting, 2.1, and what it gets it by, 2.2, of every world that a group of strict members comes to: of any slot, a batch
 -- being accepted where its accept entry is written, and learned where a slot is marked. That only a proposed batch is chosen is `only-proposed` (agreement).
-use mathlib.Core.Path.{_≡_}
+use mathlib.Core.Path.{_≡_, sym, subst}
 use mathlib.Core.Bool.{true}
 use mathlib.Core.List.{List}
 use Prim.Native.Nat.{ℕ}
 use native.Mathlib.Omega.{arith}
-use Rattle.base.specs.Among.{all-in}
+use Rattle.base.specs.Among.{_∈_, all-in}
+use Rattle.actions.specs.declared.Order.{Order}
+use Rattle.actions.specs.declared.Action.the-variants.{Execute}
 use Rattle.replica.specs.declared.Done.{Done}
 use Rattle.replica.specs.Step.{Call}
 use Rattle.voting.specs.Paper.{OnlyOne, OnlyChosenLearned, P2, P2c}
@@ -14,9 +16,10 @@ use Rattle.agreement.specs.Theorem.{Group, World, May, timer, offer, logged, ex
 use Rattle.agreement.specs.Group.{agreement}
 use Rattle.safety.specs.ForGood.{Happens, timer-fires, batch-comes, entry-done, batch-executed, read-opened, read-replied, message-comes, Event, real, turned-away, Comes, starts, goes}
 use Rattle.agreement.specs.Worlds.{accepted, issued, learned}
-use Rattle.safety.specs.Scene.{Scene, HasPromised, Issued}
+use Rattle.safety.specs.Sight.{ordered}
+use Rattle.safety.specs.Scene.{Scene, HasPromised, Issued, Fixed, deed}
 use Rattle.safety.specs.Lawfully.{member, lawful}
-use Rattle.safety.specs.Proof.{sceneOf, group-few, SoundIn, MarkFixed, sound-in}
+use Rattle.safety.specs.Proof.{sceneOf, group-few, SoundIn, MarkFixed, sound-in, fixed-same}
 
 -- ── these runs are among demand 3's ──
 happens-may : (w : World) (m room : ℕ) (c : Call) → Happens w m c → May w m room c
@@ -84,3 +87,11 @@ module _ (g : Group) (kind : g .strict ≡ true) (w : World) (r : Comes g w) whe
         let few = group-few g m p in
         chosen-fixes (g .size) few (HasPromised scene) (accepted w s) (accepted w s) (accepted w s) (Issued scene s) (law s) v c v′
         (chosen-issued (g .size) few (HasPromised scene) (accepted w s) (accepted w s) (accepted w s) (Issued scene s) (law s) v′ c′) (omega arith)
+
+    -- what reaches the stores: two Executes for one slot, of any members, name one batch
+    pub executed-one : (j j′ : ℕ) (o o′ : Order) (keys keys′ : List ℕ) → deed (Execute o) keys ∈ w .did j → deed (Execute o′) keys′ ∈ w .did j′ → o .slot ≡ o′ .slot
+        → ordered o keys ≡ ordered o′ keys′
+    executed-one j j′ o o′ keys keys′ i i′ e =
+        let (b, f) = sound .sound .executed j o keys i in
+        let (b′, f′) = sound .sound .executed j′ o′ keys′ i′ in
+        fixed-same (g .size) (group-few g m p) (g .present) scene (sound .sound) (o .slot) b b′ _ _ f (subst (λ (s : ℕ). Fixed (g .size) scene s b′ (ordered o′ keys′)) (sym e) f′)

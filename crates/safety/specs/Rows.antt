@@ -1,5 +1,4 @@
--- What holds of a group of strict members in every scene that it comes to: of two members or of a message. ../shared/design has the same list with where each
--- line is used; the names are those of docs/GUARANTEES.md.
+-- What holds of a group of strict members in every scene that it comes to: the facts that name two members, or a member and a message.
 use mathlib.Core.Path.{_≡_}
 use mathlib.Core.Bool.{Bool, true, false}
 use mathlib.Core.List.{List, []}
@@ -10,7 +9,8 @@ use Rattle.members.specs.Sets.{has}
 use Rattle.actions.specs.declared.Promised.{Promised}
 use Rattle.actions.specs.declared.Accepted.{Accepted}
 use Rattle.actions.specs.declared.Notice.{Notice}
-use Rattle.actions.specs.declared.Action.the-variants.{PrepareReply, AcceptReply, CommitNotice}
+use Rattle.actions.specs.declared.Order.{Order}
+use Rattle.actions.specs.declared.Action.the-variants.{PrepareReply, AcceptReply, CommitNotice, Execute}
 use Rattle.slots.specs.declared.Vote.{Vote}
 use Rattle.slots.specs.declared.Slot.{Slot}
 use Rattle.voting.specs.Paper.{Majority}
@@ -18,7 +18,7 @@ use Rattle.voting.specs.Core.{Obeys}
 use Rattle.voting.specs.StrictVotes.{entryOf}
 use Rattle.agreement.specs.Frame.{Owns}
 use Rattle.agreement.specs.StrictTells.{toldVote}
-use Rattle.safety.specs.Sight.{Sight, notes, acks, highest, counted}
+use Rattle.safety.specs.Sight.{Sight, notes, acks, highest, counted, ordered}
 use Rattle.safety.specs.Scene.{Scene, HasPromised, Cast, Voted, Lasts, Issued, NoneBelow, Fixed, deed}
 use Rattle.safety.specs.Alone.{Alone}
 
@@ -81,5 +81,7 @@ pub record Sound (size : ℕ) (present : ℕ → Bool) (g : Scene) : Type 0 wher
   -- what a leader proposed at the ballot of a CommitNotice, below the bar told, is chosen
   pub notice : (p : ℕ) (a : Notice) (keys : List ℕ) → deed (CommitNotice a) keys ∈ g .did p
       → Owns p (a .ballot) × ((s : ℕ) (x : Vote) → s < a .bar → x .ballot ≡ a .ballot → entryOf s x ∈ g .did p → Fixed size g s (x .ballot) (x .batch))
+  -- a batch that is executed is chosen
+  pub executed : (m : ℕ) (o : Order) (keys : List ℕ) → deed (Execute o) keys ∈ g .did m → (b : ℕ) × Fixed size g (o .slot) b (ordered o keys)
   -- what a slot committed is chosen, at its ballot or below
   pub done : (m : ℕ) → present m ≡ true → (s : ℕ) → 3 ≤ g .sight m .slot s .status → Fixed size g s (g .sight m .slot s .ballot) (g .sight m .slot s .batch)

@@ -3,12 +3,12 @@
 use mathlib.Core.Path.{_≡_, refl, sym, ap, _∙_}
 use mathlib.Core.Bool.{true, false, not, _||_}
 use mathlib.Core.List.{List, []}
-use Prim.Native.Nat.{ℕ}
+use Prim.Native.Nat.{ℕ, _<_}
 use native.Mathlib.Nat.{le-refl}
 use native.Mathlib.Omega.{arith}
 use lib.Dec.{ltb, eqb}
-use borrow.Author.Tests.{eqb-true}
-use Rattle.base.specs.Pick.{pick, pick-both, pick-cases, and-both}
+use borrow.Author.Tests.{eqb-true, not-false}
+use Rattle.base.specs.Pick.{pick, pick-both, pick-cases, and-both, or-false}
 use Rattle.base.specs.Among.{All, all-append}
 use Rattle.base.specs.Gather.{gather, all-gather}
 use Rattle.actions.specs.Actions.{Act}
@@ -32,10 +32,10 @@ use Rattle.laws.specs.Leaves.{done}
 use Rattle.laws.specs.OfDecide.{Heeded}
 use Rattle.laws.specs.WaysDurability.{completion, logged, loggedAt, Logs, Completes, completes-silent, completes-more, completes-commit, completes-report, passFrom, passed, promiseActs, loggedStep-ways}
 use Rattle.voting.specs.Windows.{Whole, whole-put}
+use Rattle.agreement.specs.BySlot.{numbered-at, numbered-place}
 use Rattle.agreement.specs.Theorem.{slotOf}
-use Rattle.safety.specs.Sight.{sightOf, Notices, Says}
-use Rattle.agreement.specs.BySlot.{numbered-place}
-use Rattle.safety.specs.Bars.{logged-slot}
+use Rattle.safety.specs.Sight.{sightOf, Notices, Executes, Says}
+use Rattle.safety.specs.Bars.{logged-slot, pass-within, logged-numbers}
 use Rattle.safety.specs.Saying.{SaysAll, Told}
 use Rattle.safety.specs.SayingReply.{reply-says}
 
@@ -95,14 +95,25 @@ notice-says r d t =
       low = le-refl _;
     }
 
-passed-says : (r : Replica) (d : Done) → Told r (callLogged d) (passed (logged r d))
-passed-says r d =
+-- an Execute: of a slot that the bar passes and that is committed
+execute-says : (r : Replica) (d : Done) → Logs r d → (i : ℕ) → i < passStop (logged r d) → slotAt (logged r d .window) i .status ≡ 3
+    → Executes (sightOf r) (number (logged r d .sc) i) (slotAt (logged r d .window) i .batch)
+execute-says r d f i l e = record { done = (let z = same (λ (x : Slot). x .status) (λ x n. refl) in omega arith); batch = same (λ (x : Slot). x .batch) (λ x n. refl) }
+  where
+    same : {A : Type 0} (p : Slot → A) → ((x : Slot) (offset : ℕ) → p (withOffset x offset) ≡ p x) → p (slotOf r (number (logged r d .sc) i)) ≡ p (slotAt (logged r d .window) i)
+    same p o =
+        sym (logged-slot p o r d (number (logged r d .sc) i))
+        ∙ ap p (numbered-at (logged r d .sc .start) (logged r d .window) i ∙ at-here (logged r d .window) i (pass-within (logged r d) (logged-numbers r d f) i l))
+
+passed-says : (r : Replica) (d : Done) → Logs r d → Told r (callLogged d) (passed (logged r d))
+passed-says r d f =
     let q : Replica = logged r d in
     let Said : Act → Type 0 = λ (a : Act). Says (sightOf r) (callLogged d) (sightOf (passed q .replica)) (a .keys) (a .what) in
     let notice : List Act = noticeActs (q .sc) (number (q .sc) (passStop q)) (logEnd q) in
     all-append Said (gather (λ i. passActs (number (q .sc) i) (slotAt (q .window) i)) (passFrom q) (passStop q)) (pick (eqb (passFrom q) (passStop q)) [] notice)
     (all-gather (λ i. passActs (number (q .sc) i) (slotAt (q .window) i)) Said (passFrom q) (passStop q)
-    (λ i a b. pick-both (All Said) (eqb (slotAt (q .window) i .batch .id) 0 || not (eqb (slotAt (q .window) i .status) committed)) tt (tt, tt)))
+    (λ i a b. pick-cases (All Said) (eqb (slotAt (q .window) i .batch .id) 0 || not (eqb (slotAt (q .window) i .status) committed)) (λ _. tt)
+    (λ t. (execute-says r d f i b (eqb-true _ _ (not-false _ (or-false (eqb (slotAt (q .window) i .batch .id) 0) _ t .1))), tt))))
     (pick-both (All Said) (eqb (passFrom q) (passStop q)) {a = []} {b = notice} tt
     (pick-cases (All Said) (notifies (q .sc) (number (q .sc) (passStop q)) (logEnd q)) (λ t. (notice-says r d t, tt)) (λ t. tt)))
 
@@ -116,4 +127,4 @@ logged-says r room d h k =
     let own : Outcome = replyOn q (q .sc .id) (ownReply (q .sc) (loggedAt r d) (d .slot)) in
     pick-cases (Told r (callLogged d)) (eqb (own .answer) 0)
     (λ _. reply-says (sightOf r) (callLogged d) q (whole-put (r .window) (place (r .sc) (d .slot)) _ h) (q .sc .id) (ownReply (q .sc) (loggedAt r d) (d .slot))) (λ _. tt))
-    (λ f e o n p. promised-says r d f e k o n p) (λ f e after acts o. completed-says r d f e k after acts o) (λ f e at. passed-says r d)
+    (λ f e o n p. promised-says r d f e k o n p) (λ f e after acts o. completed-says r d f e k after acts o) (λ f e at. passed-says r d f)

@@ -12,6 +12,7 @@ use Rattle.members.specs.Sets.{has}
 use Rattle.batch.specs.declared.Batch.{Batch}
 use Rattle.actions.specs.declared.Action.{Action}
 use Rattle.actions.specs.declared.Promised.{Promised}
+use Rattle.actions.specs.declared.Order.{Order}
 use Rattle.actions.specs.declared.Action.the-variants.{PrepareBal, AcceptData, CommitSlot, Prepare, PrepareReply, Accept, AcceptReply, CommitNotice, Heartbeat, StatusUp, StatusDown, Execute, ReadAnswer}
 use Rattle.actions.specs.Actions.{Act}
 use Rattle.slots.specs.declared.Vote.{Vote}
@@ -176,12 +177,22 @@ pub record Notices (v v′ : Sight) (ballot bar : ℕ) : Type 0 where
   pub prepared : ballot ≡ v .prepared
   pub low : bar ≤ v′ .bar
 
+-- the batch that an Execute names
+abbrev pub ordered : Order → List ℕ → Batch
+ordered o keys = record { id = o .batch; count = o .count; keys = keys }
+
+-- an Execute is of a committed slot, and names its batch
+pub record Executes (v : Sight) (s : ℕ) (b : Batch) : Type 0 where
+  pub done : 3 ≤ v .slot s .status
+  pub batch : v .slot s .batch ≡ b
+
 abbrev pub Says : Sight → Call → Sight → List ℕ → Action → Type 0
 Says v c v′ keys (PrepareBal p) = Promises v′ (p .slot) (p .ballot)
 Says v c v′ keys (PrepareReply p) = Answers v c p keys
 -- (a): and an AcceptReply the completion of its accept entry
 Says v c v′ keys (AcceptReply p) = (size : ℕ) × (c ≡ callLogged (completion AcceptEntry (p .slot) (p .ballot) size))
 Says v c v′ keys (CommitNotice p) = Notices v v′ (p .ballot) (p .bar)
+Says v c v′ keys (Execute p) = Executes v (p .slot) (ordered p keys)
 Says v c v′ keys (AcceptData p) = Unit {0}
 Says v c v′ keys (CommitSlot p) = Unit {0}
 Says v c v′ keys (Prepare p) = Unit {0}
@@ -189,7 +200,6 @@ Says v c v′ keys (Accept p) = Unit {0}
 Says v c v′ keys Heartbeat = Unit {0}
 Says v c v′ keys StatusUp = Unit {0}
 Says v c v′ keys StatusDown = Unit {0}
-Says v c v′ keys (Execute p) = Unit {0}
 Says v c v′ keys (ReadAnswer p) = Unit {0}
 
 -- ── who leads after it ──

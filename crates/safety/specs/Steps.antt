@@ -13,7 +13,7 @@ use Rattle.safety.specs.Moves.{Move, next, ext}
 use Rattle.safety.specs.Telling.{told-step, took-step}
 use Rattle.safety.specs.LeadingOn.{lead-step}
 use Rattle.safety.specs.Choosing.{from-step, obeys-step, alone-next, nothing-next}
-use Rattle.safety.specs.Learning.{acked-step, done-step, notice-step}
+use Rattle.safety.specs.Learning.{acked-step, done-step, notice-step, executed-step}
 
 module _ {size : ℕ} {present : ℕ → Bool} {g : Scene} (t : Move size present g) where
   sized-step : (m : ℕ) → present m ≡ true → next t .sight m .group ≡ size
@@ -52,5 +52,6 @@ module _ {size : ℕ} {present : ℕ → Bool} {g : Scene} (t : Move size presen
         acked = acks-step;
         obeys = obeys-step t;
         notice = notice-step t;
+        executed = executed-step t;
         done = dones-step;
       }
