@@ -1,4 +1,5 @@
--- 2.2 in the group: each proposal obeys P2c; a slot that is marked is one that a majority accepted for good, and what a leader's bar or notice has passed too.
+-- 2.2 in the group: each proposal obeys P2c. S is the majority that is counted as a slot enters Accept, and the member that told of the largest vote heard; of an
+-- offer the majority that the lead rests on.
 use mathlib.Core.Path.{_≡_, sym, subst, _∙_}
 use mathlib.Core.Bool.{Bool, true, false}
 use mathlib.Core.List.{[]}

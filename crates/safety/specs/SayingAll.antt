@@ -1,4 +1,5 @@
--- Every action of a call says what is so (Sight, `Says`): its prepare entries, replies and notices; of the others nothing is asked.
+-- Every action of a call says what is so (Sight, `Says`): its prepare entries, replies, notices and executions; of the others nothing is
+-- asked.
 use mathlib.Core.List.{[], _∷_}
 use Prim.Native.Nat.{ℕ}
 use lib.Dec.{leb}

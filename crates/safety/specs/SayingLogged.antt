@@ -1,5 +1,5 @@
 -- What a log completion says: a reply answers the completion of its entry at its own ballot, and a PrepareReply tells the slot's vote and endprep; a
--- CommitNotice is a leader's, at the ballot that it prepared, and tells its commit_bar.
+-- CommitNotice is a leader's, at the ballot that it prepared, and tells its commit_bar; an Execute names the batch of a committed slot.
 use mathlib.Core.Path.{_≡_, refl, sym, ap, _∙_}
 use mathlib.Core.Bool.{true, false, not, _||_}
 use mathlib.Core.List.{List, []}
