@@ -23,7 +23,8 @@ abbrev pub All : {A : Type 0} → (A → Type 0) → List A → Type 0
 All P [] = Unit {0}
 All P (x ∷ l) = P x × All P l
 
-pub All-in : {A : Type 0} (P : A → Type 0) {l : List A} {a : A} → All P l → a ∈ l → P a
+pub All-in : {A : Type 0} (P : A → Type 0) {a : A} {l : List A} → All P l → a ∈ l → P a
+All-in {A = A} P {a = a} {l = []} h x5 = elim x5 [ ]
 All-in P {l = x ∷ l} h (Memᴰ.head e) = rw e h.0
 All-in P {l = x ∷ l} h (Memᴰ.tail m) = All-in P h.1 m
 

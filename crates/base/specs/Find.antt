@@ -30,6 +30,7 @@ module _ (p : ℕ → Bool) where
 
   -- a turn that does
   pub any_found : (from i to : ℕ) → from ≤ i → i < to → p i ≡ true → any from to ≡ true
+  any_found from i zero h q f = elim q [ ]
   any_found from i (suc j) h q f =
       rw (le-leb from j (omega arith))
       (⊎_elim
@@ -75,6 +76,7 @@ module _ (p : ℕ → Bool) where
 
   -- no index past it and below `to` passes the test
   pub last_past : (other to i : ℕ) → last other to < i → i < to → p i ≡ false
+  last_past other zero i h q = elim q [ ]
   last_past other (suc j) i h q =
       pick_cases (λ (x : ℕ). x < i → p i ≡ false) (p j)
       (λ t h'. absurd (omega arith))

@@ -54,6 +54,7 @@ module _ {B : Type 0} (g : ℕ → List B) where
 
   -- and what stands in one of these is in it
   pub in_gather : {a : B} (from to i : ℕ) → from ≤ i → i < to → a ∈ g i → a ∈ gather from to
+  in_gather {a = a} from zero i l u m = elim u [ ]
   in_gather {a} from (suc j) i l u m =
       rw (le-leb from j (omega arith))
       (⊎_elim

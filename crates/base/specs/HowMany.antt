@@ -36,7 +36,10 @@ module _ (p : ℕ → Bool) where
   how_many_split from mid zero a b = rw (how_many_none from mid (omega arith))
   how_many_split from mid (suc j) a b =
       ⊎_elim
-      (λ (e : mid ≡ suc j). rw e (sym (omega (arith, how_many_none (suc j) (suc j) (le_refl (suc j))))))
+      (λ (e : mid ≡ suc j).
+      let n = how_many_none mid (suc j) (omega arith) in
+      let s : how_many from (suc j) ≡ how_many from mid = ap (how_many from) (sym e) in
+      rw n (omega (arith, s)))
       (λ (u : mid < suc j).
       let q = how_many_split from mid j a (omega arith) in
       rw (le-leb from j (omega arith), le-leb mid j (omega arith)) (omega (arith, q)))

@@ -47,6 +47,7 @@ module _ {A : Type 0} (f : ℕ → A → A) (d : A) where
       (λ t. over_before from i l j h)
 
   pub over_at : (from to : ℕ) (l : List A) (j : ℕ) → from ≤ j → j < to → j < length l → get_or (over from to l) j d ≡ f j (get_or l j d)
+  over_at from zero l j h p q = elim p [ ]
   over_at from (suc i) l j h p q =
       rw (le-leb from i (omega arith))
       (⊎_elim
