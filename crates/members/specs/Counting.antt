@@ -49,6 +49,7 @@ count_cut n (suc m) f l h = go (same? n (suc m)) (λ (q : n ≤ m). count_cut n 
 -- a test that passes at one place more counts one more
 pub count_put : (n i : ℕ) (f g : ℕ → Bool) → i < n → f i ≡ true → g i ≡ false → ((j : ℕ) → j < n → eqb j i ≡ false → f j ≡ g j) → count n f ≡ count n g + 1
 unfolding count
+count_put zero i f g l p q h = elim l [ ]
 count_put (suc n) i f g l p q h = go (same? i n) (λ (u : i < n). count_put n i f g u p q (λ j v. h j (omega arith)))
   where
     go : (i ≡ n) ⊎ (i ≡ n → ⊥) → (i < n → count n f ≡ count n g + 1) → count n f + one (f n) ≡ (count n g + one (g n)) + 1

@@ -39,6 +39,8 @@ set_bit x (suc i) (suc j) h =
 
 -- and it stays below a power of two above 2 ^ i
 set_below : (x i n : ℕ) → x < 2 ^ n → i < n → x / 2 ^ i % 2 ≡ 0 → x + 2 ^ i < 2 ^ n
+set_below x zero zero h l z = elim l [ ]
+set_below x (suc i) zero h l z = elim l [ ]
 set_below x zero (suc n) h l z = omega (arith, first x)
 set_below x (suc i) (suc n) h l z =
     let g : x / 2 / 2 ^ i % 2 ≡ 0 = rw half at z in
@@ -50,6 +52,8 @@ low_half x n = ap (λ (d : ℕ). x % d) (pow-suc 2 n) ∙ mod-mul x (pow_pos n) 
 
 -- so below bit n its bits are the number's own
 low_bit : (x i n : ℕ) → i < n → x % 2 ^ n / 2 ^ i % 2 ≡ x / 2 ^ i % 2
+low_bit x zero zero l = elim l [ ]
+low_bit x (suc i) zero l = elim l [ ]
 low_bit x zero (suc n) l = omega (arith, low_half x n, first x, first (x % 2 ^ suc n))
 low_bit x (suc i) (suc n) l =
     let e : x % 2 ^ suc n / 2 ≡ x / 2 % 2 ^ n = omega (arith, low_half x n) in

@@ -35,6 +35,7 @@ insert_all_kept set (m ∷ ms) x s h e l =
 
 -- who is put in is in it
 pub insert_all_in : (set : ℕ) (ms : List ℕ) (x : ℕ) → set < 512 → Members ms → x ∈ ms → has (insert_all set ms) x ≡ true
+insert_all_in set [] x s h x5 = elim x5 [ ]
 insert_all_in set (m ∷ ms) x s h (Memᴰ.head e) =
     let l : m < 9 = h m (Memᴰ.head refl) in
     rw e (insert_all_kept (insert set m) ms m (insert_below set m s) (λ y o. h y (Memᴰ.tail o)) (has_inserted set m s l) l)
