@@ -196,6 +196,7 @@ most_among held (told ∷ l) = go (most_among (more_known held told) l)
 
 -- and none is above it
 pub most_above : (held : Best) (l : List Best) (b : Best) → b ∈ (held ∷ l) → level b ≤ level (most_known held l)
+most_above held [] b (Memᴰ.tail x5) = elim x5 [ ]
 most_above held [] b (Memᴰ.head e) = rw e (le_refl _)
 most_above held (told ∷ l) b (Memᴰ.head e) =
     rw e (omega (arith, more_level held told, larger_left (level held) (level told), most_above (more_known held told) l (more_known held told) (Memᴰ.head refl)))

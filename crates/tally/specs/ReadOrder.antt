@@ -60,6 +60,7 @@ newcomers_from acks (m ∷ ms) x s h p =
     p
 
 pub in_newcomers : (acks : ℕ) (ms : List ℕ) (x : ℕ) → acks < 512 → Members ms → x ∈ ms → has acks x ≡ false → x ∈ newcomers acks ms
+in_newcomers acks [] x s h o e = elim o [ ]
 in_newcomers acks (m ∷ ms) x s h o e =
     let rest : Members ms = λ y p. h y (Memᴰ.tail p) in
     pick_cases (λ (l : List ℕ). x ∈ l) (has acks m)

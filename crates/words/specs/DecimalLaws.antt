@@ -13,6 +13,7 @@ length-digits (suc k) n = length-append (digits k (n / 10)) ((48 + n % 10) ∷ [
 
 -- the text of n is its last digits, as many as it has
 wide_digits : (k w n : ℕ) → w ≤ k → 0 < w → n < 10 ^ w → (1 < w → 10 ^ (w - 1) ≤ n) → decimal_for k n ≡ digits w n
+wide_digits (suc k) zero n h p q r = elim p [ ]
 wide_digits zero w n h p q r = absurd (omega arith)
 wide_digits (suc k) (suc zero) n h p q r =
     let e : n % 10 ≡ n = omega arith in
@@ -41,6 +42,7 @@ digit_stored t at i v m h e =
 -- a turn stores two
 pub pair_stored : (t : List ℕ) (at j x y m : ℕ) → 1 < j → at + j ≤ length t → x ≡ 48 + m % 100 % 10 → y ≡ 48 + m % 100 / 10 % 10
     → put_at (slice_set (slice_set t (at + j - 1) x) (at + j - 2) y) at (digits (j - 2) (m / 100)) ≡ put_at t at (digits j m)
+pair_stored t at zero x y m h k e f = elim h [ ]
 pair_stored t at (suc zero) x y m h k e f = absurd (omega arith)
 pair_stored t at (suc (suc i)) x y m h k e f =
     let a : at + suc (suc i) - 1 ≡ at + suc i = omega arith in
