@@ -1,10 +1,10 @@
 -- Each way through the test of who counts, where its numbers are places of the window and where they are not.
-use Rattle.std.specs.Prelude.{◌≡◌, refl, Bool, true, false, not, ℕ, ◌+◌, ◌-◌, ◌≤◌, ◌<◌, leb, eqb}
+use Rattle.std.specs.Prelude.{◌≡◌, Bool, true, false, not, ℕ, ◌+◌, ◌-◌, ◌≤◌, ◌<◌, leb, eqb}
 use Rattle.std.proofs.Math.Path.{sym}
 use Rattle.std.proofs.Common.{◌∙◌, arith}
 use Rattle.std.proofs.Math.Bool.{and-false}
 use borrow.Author.Tests.{le-leb, lt-leb, lt-ltb, le-ltb}
-use Rattle.base.specs.Find.{any, any_self, any_more, any_found}
+use Rattle.base.specs.Find.{any_self, any_more, any_found}
 use Rattle.members.specs.Sets.{has}
 use Rattle.slots.specs.Slots.{lacks_note}
 use Rattle.decide.specs.declared.Scalars.{Scalars}

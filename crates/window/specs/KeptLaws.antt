@@ -1,13 +1,13 @@
 -- Each way through the functions that keep the summary, and the turns of the one pass and of a count.
 use Rattle.std.specs.Prelude.{◌≡◌, refl, Bool, true, false, not, ◌&&◌, ℕ, ◌+◌, ◌-◌, ◌≤◌, ◌<◌, ltb, leb, eqb}
 use Rattle.std.proofs.Math.Path.{sym}
-use Rattle.std.proofs.Common.{ap, ◌∙◌, arith, le-leb, lt-ltb, le-ltb, eq-eqb, ne_eqb}
+use Rattle.std.proofs.Common.{◌∙◌, arith, le-leb, lt-ltb, le-ltb, eq-eqb, ne_eqb}
 use Rattle.std.proofs.Math.Bool.{and-false}
 use Rattle.std.proofs.lemmas.Bool.{lt-leb}
 use Rattle.base.specs.Pick.{pick, one, pick_cases, tests}
 use Rattle.base.specs.Scan.{scan, scan_more}
 use Rattle.base.specs.Find.{any}
-use Rattle.base.specs.HowMany.{how_many, how_many_none, how_many_more, how_many_before, how_many_few, one_few}
+use Rattle.base.specs.HowMany.{how_many, how_many_none, how_many_more, how_many_before, one_few}
 use Rattle.slots.specs.Slots.{fit_slot}
 use Rattle.window.specs.declared.Window.{Window}
 use Rattle.window.specs.declared.Summary.{Summary}

@@ -1,5 +1,5 @@
 -- Windows in which every committed slot stays committed: the first open slot never falls from one to the other.
-use Rattle.std.specs.Prelude.{◌≡◌, refl, true, false, ℕ, ◌+◌, ◌≤◌, ◌<◌, ltb}
+use Rattle.std.specs.Prelude.{◌≡◌, true, false, ℕ, ◌≤◌, ◌<◌, ltb}
 use Rattle.std.proofs.Common.{⊎_elim, le_refl, arith}
 use Rattle.base.specs.Pick.{decide, tests}
 use Rattle.slots.specs.declared.Slot.{Slot}

@@ -1,12 +1,12 @@
 -- The summary, kept in a few comparisons, is the walk's: for a log that grows, for one slot that changes, and for each sweep.
-use Rattle.std.specs.Prelude.{◌≡◌, refl, Bool, false, ◌&&◌, List, [], ◌⊎◌, ℕ, zero, suc, ◌+◌, ◌-◌, ◌≤◌, ◌<◌, eqb, length}
+use Rattle.std.specs.Prelude.{◌≡◌, refl, Bool, false, ◌&&◌, List, ℕ, zero, suc, ◌+◌, ◌-◌, ◌≤◌, ◌<◌, eqb, length}
 use Rattle.std.proofs.Math.Path.{sym, ap}
-use Rattle.std.proofs.Common.{subst, ◌∙◌, inl, inr, ⊎_elim, le_refl, eq-or-lt_of_le, arith, length-append}
+use Rattle.std.proofs.Common.{subst, ◌∙◌, ⊎_elim, le_refl, eq-or-lt_of_le, arith, length-append}
 use Rattle.std.proofs.Math.Bool.{true}
 use Rattle.std.proofs.Math.Dec.{ltb, leb}
 use Rattle.std.proofs.Math.ListN.{get_or-eq_default}
-use borrow.Author.Tests.{le-leb, lt-leb, lt-ltb, le-ltb, eq-eqb, ne_eqb, ltb-true, ltb-false, leb-true, leb-false, eqb-true, eqb-false}
-use Rattle.base.specs.Pick.{pick, one, larger, larger_left, larger_right, larger_least, pick_both, pick_cases, and_left, and_right, and_make, clash, decide, same?, tests}
+use borrow.Author.Tests.{le-leb, lt-leb, lt-ltb, eq-eqb, ne_eqb, ltb-true, ltb-false, leb-true, leb-false, eqb-true}
+use Rattle.base.specs.Pick.{one, larger, larger_left, larger_right, larger_least, pick_cases, and_left, and_right, and_make, clash, decide, same?, tests}
 use Rattle.base.specs.Gather.{gather}
 use Rattle.base.specs.Scan.{scan, scan_is, scan_high, scan_passed, scan_stopped}
 use Rattle.base.specs.Find.{last_past}
@@ -20,9 +20,9 @@ use Rattle.slots.specs.Statuses.{redone_closed, redone_open, marked_closed, ente
 use Rattle.decide.specs.declared.Scalars.{Scalars}
 use Rattle.window.specs.declared.Window.{Window}
 use Rattle.window.specs.declared.Summary.{Summary}
-use Rattle.window.specs.Window.{slot_at, put_slot, filled, sweep, first_open, last_used, mark_stop, may_mark}
+use Rattle.window.specs.Window.{slot_at, put_slot, filled, sweep, first_open, last_used}
 use Rattle.window.specs.Acts.{mark_acts}
-use Rattle.window.specs.Places.{size, put_here, put_other, put_each, filled_low, filled_old, filled_each, filled_ways, sweep_long, sweep_in, sweep_before, sweep_after, sweep_each}
+use Rattle.window.specs.Places.{size, put_here, put_other, put_each, filled_low, filled_old, filled_each, sweep_long, sweep_in, sweep_before, sweep_after, sweep_each}
 use Rattle.window.specs.Summary.{has_status, walk}
 use Rattle.window.specs.Kept.{lowered, recounted, changed, is_passed, prepared_from}
 
