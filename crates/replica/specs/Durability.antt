@@ -1,5 +1,5 @@
 -- 002, durability.rs: log completions.
-use Rattle.std.specs.Prelude.{false, not, ◌&&◌, List, [], ◌∷◌, ◌++◌, ℕ, ◌+◌, ltb, leb, eqb}
+use Rattle.std.specs.Prelude.{false, not, ◌&&◌, List, [], ◌∷◌, ◌++◌, ℕ, ltb, leb, eqb}
 use Rattle.base.specs.Pick.{pick}
 use Rattle.base.specs.Gather.{gather}
 use Rattle.base.specs.Scan.{scan}
