@@ -63,6 +63,7 @@ fair r (y ∷ l) = fair_one r y.what && fair r l
 
 fair_facts : (r : Replica) (l : List Act) → fair r l ≡ true → (y : Act) (x : Accepted) → y ∈ l → y.what ≡ AcceptReply x → (slot_of r x.slot).status ≡ 2
 unfolding fair
+fair_facts r [] f y x m e = elim m [ ]
 fair_facts r (z ∷ l) f y x (Memᴰ.head q) e =
     eqb-true _ _ (subst (λ (a : Action). fair_one r a ≡ true) e (subst (λ (a : Act). fair_one r a.what ≡ true) (sym q) (and_left (fair_one r z.what) (fair r l) f)))
 fair_facts r (z ∷ l) f y x (Memᴰ.tail m) e = fair_facts r l (and_right (fair_one r z.what) (fair r l) f) y x m e

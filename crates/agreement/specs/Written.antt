@@ -39,5 +39,6 @@ lines (a ∷ l) = line_of a.what ++ lines l
 
 pub lines_in : (slot ballot : ℕ) (b : Batch) (l : List Act) → accept_entry slot ballot b ∈ l → line slot ballot b.id ∈ lines l
 unfolding lines
+lines_in slot ballot b [] m = elim m [ ]
 lines_in slot ballot b (a ∷ l) (Memᴰ.head e) = subst (λ (x : Act). line slot ballot b.id ∈ (line_of x.what ++ lines l)) e (Memᴰ.head refl)
 lines_in slot ballot b (a ∷ l) (Memᴰ.tail m) = Memᴰ.append_right (line_of a.what) (lines_in slot ballot b l m)
