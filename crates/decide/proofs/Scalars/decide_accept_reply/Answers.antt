@@ -17,16 +17,22 @@ returns-then-contradicts c =
 
 pub returns-then-contains : goal.returns-then-contains
 returns-then-contains c =
+    let awaited : awaits_accept c.args.self c.args.s c.args.ballot ≡ true = flag c.awaits_accept.ensures (not-false _ (ap not c.if-not-awaits_accept.false)) in
+    let sound : contradicted c.args.self c.args.s c.args.ballot true ≡ false = flag c.contradicts.ensures c.if-contradicts.false in
     c.silent-then-contains.ensures
-    ∙ sym (reply_known _ _ _ _ _ ((let it-awaited : awaits_accept c.args.self c.args.s c.args.ballot ≡ true = (flag c.awaits_accept.ensures (not-false _ (ap not c.if-not-awaits_accept.false))) in it-awaited)) ((let it-sound : contradicted c.args.self c.args.s c.args.ballot true ≡ false = (flag c.contradicts.ensures c.if-contradicts.false) in it-sound)) (flag c.contains.ensures c.if-contains.true))
+    ∙ sym (reply_known _ _ _ _ _ awaited sound (flag c.contains.ensures c.if-contains.true))
 
 pub returns-then-count-quorum : goal.returns-then-count-quorum
 returns-then-count-quorum c =
+    let awaited : awaits_accept c.args.self c.args.s c.args.ballot ≡ true = flag c.awaits_accept.ensures (not-false _ (ap not c.if-not-awaits_accept.false)) in
+    let sound : contradicted c.args.self c.args.s c.args.ballot true ≡ false = flag c.contradicts.ensures c.if-contradicts.false in
     c.silent-then-count-quorum.ensures
-    ∙ sym (reply_few _ _ _ _ _ ((let it-awaited : awaits_accept c.args.self c.args.s c.args.ballot ≡ true = (flag c.awaits_accept.ensures (not-false _ (ap not c.if-not-awaits_accept.false))) in it-awaited)) ((let it-sound : contradicted c.args.self c.args.s c.args.ballot true ≡ false = (flag c.contradicts.ensures c.if-contradicts.false) in it-sound)) (flag c.contains.ensures c.if-contains.false) _ _ _
+    ∙ sym (reply_few _ _ _ _ _ awaited sound (flag c.contains.ensures c.if-contains.false) _ _ _
     c.acknowledged-known.ensures c.count.ensures c.quorum.ensures c.if-count-quorum.true)
 
 pub returns : goal.returns
 returns c =
-    sym (reply_quorum _ _ _ _ _ ((let it-awaited : awaits_accept c.args.self c.args.s c.args.ballot ≡ true = (flag c.awaits_accept.ensures (not-false _ (ap not c.if-not-awaits_accept.false))) in it-awaited)) ((let it-sound : contradicted c.args.self c.args.s c.args.ballot true ≡ false = (flag c.contradicts.ensures c.if-contradicts.false) in it-sound)) (flag c.contains.ensures c.if-contains.false) _ _ _
+    let awaited : awaits_accept c.args.self c.args.s c.args.ballot ≡ true = flag c.awaits_accept.ensures (not-false _ (ap not c.if-not-awaits_accept.false)) in
+    let sound : contradicted c.args.self c.args.s c.args.ballot true ≡ false = flag c.contradicts.ensures c.if-contradicts.false in
+    sym (reply_quorum _ _ _ _ _ awaited sound (flag c.contains.ensures c.if-contains.false) _ _ _
     c.acknowledged-known.ensures c.count.ensures c.quorum.ensures _ c.if-count-quorum.false c.committed-done.ensures)

@@ -16,23 +16,27 @@ returns-then-not-goes_on c =
 
 pub returns-then-v-ne0 : goal.returns-then-v-ne0
 returns-then-v-ne0 c =
+    let awaited : goes_on c.args.self c.args.s c.args.m.ballot ≡ true = granted c.goes_on.ensures (ap not c.if-not-goes_on.false) in
     let a = c.args in
-    c.unmoved-then-v-ne0.ensures ∙ weigh_refused a.self a.s a.t a.own a.counts a.peer a.m ((let it-awaited : goes_on c.args.self c.args.s c.args.m.ballot ≡ true = (granted c.goes_on.ensures (ap not c.if-not-goes_on.false)) in it-awaited)) c.decide_vote-v.ensures c.if-v-ne0.true
+    c.unmoved-then-v-ne0.ensures ∙ weigh_refused a.self a.s a.t a.own a.counts a.peer a.m awaited c.decide_vote-v.ensures c.if-v-ne0.true
 
 pub returns-then-not-counts : goal.returns-then-not-counts
 returns-then-not-counts c =
+    let awaited : goes_on c.args.self c.args.s c.args.m.ballot ≡ true = granted c.goes_on.ensures (ap not c.if-not-goes_on.false) in
     let a = c.args in
-    weigh_more a.self a.s a.t a.own a.counts a.peer a.m ((let it-awaited : goes_on c.args.self c.args.s c.args.m.ballot ≡ true = (granted c.goes_on.ensures (ap not c.if-not-goes_on.false)) in it-awaited)) c.decide_vote-v.ensures c.if-v-ne0.false c.chosen_slot-base.ensures (not-true _ (ap not c.if-not-counts.true))
+    weigh_more a.self a.s a.t a.own a.counts a.peer a.m awaited c.decide_vote-v.ensures c.if-v-ne0.false c.chosen_slot-base.ensures (not-true _ (ap not c.if-not-counts.true))
 
 pub returns-then-d-ne0 : goal.returns-then-d-ne0
 returns-then-d-ne0 c =
+    let awaited : goes_on c.args.self c.args.s c.args.m.ballot ≡ true = granted c.goes_on.ensures (ap not c.if-not-goes_on.false) in
     let a = c.args in
     c.unmoved-then-d-ne0.ensures
-    ∙ weigh_overtaken a.self a.s a.t a.own a.counts a.peer a.m ((let it-awaited : goes_on c.args.self c.args.s c.args.m.ballot ≡ true = (granted c.goes_on.ensures (ap not c.if-not-goes_on.false)) in it-awaited)) c.decide_vote-v.ensures c.if-v-ne0.false c.chosen_slot-base.ensures
+    ∙ weigh_overtaken a.self a.s a.t a.own a.counts a.peer a.m awaited c.decide_vote-v.ensures c.if-v-ne0.false c.chosen_slot-base.ensures
     (not-false _ (ap not c.if-not-counts.false)) c.decide_count-d.ensures c.if-d-ne0.true
 
 pub returns : goal.returns
 returns c =
+    let awaited : goes_on c.args.self c.args.s c.args.m.ballot ≡ true = granted c.goes_on.ensures (ap not c.if-not-goes_on.false) in
     let a = c.args in
-    weigh_counted a.self a.s a.t a.own a.counts a.peer a.m ((let it-awaited : goes_on c.args.self c.args.s c.args.m.ballot ≡ true = (granted c.goes_on.ensures (ap not c.if-not-goes_on.false)) in it-awaited)) c.decide_vote-v.ensures c.if-v-ne0.false c.chosen_slot-base.ensures
+    weigh_counted a.self a.s a.t a.own a.counts a.peer a.m awaited c.decide_vote-v.ensures c.if-v-ne0.false c.chosen_slot-base.ensures
     (not-false _ (ap not c.if-not-counts.false)) c.decide_count-d.ensures c.if-d-ne0.false c.is_counted-enters.ensures

@@ -21,24 +21,24 @@ returns-then-made-ne0 c =
 
 pub returns-then-slot-sc : goal.returns-then-slot-sc
 returns-then-slot-sc c =
+    let facts : Ready c.args.self (length c.args.room.now) = let a_facts = c.args in (owner_facts a_facts.self _ a_facts.peer a_facts.ballot (sym c.from_owner-first.ensures ∙ c.if-first-ne0.false)).sender.facts in
     let a = c.args in
     keep 0 a.self c.kept-then-slot-sc.ensures
     (accept_below a.self _ a.peer a.slot a.ballot a.batch _ c.from_owner-first.ensures c.if-first-ne0.false _ c.make-made.ensures c.if-made-ne0.false c.if-slot-sc.true)
-    ((let it-facts : Ready c.args.self (length c.args.room.now) = (let a_facts = c.args in
-    (owner_facts a_facts.self _ a_facts.peer a_facts.ballot (sym c.from_owner-first.ensures ∙ c.if-first-ne0.false)).sender.facts) in it-facts)).sum
+    facts.sum
 
 pub returns-then-ballot-sc : goal.returns-then-ballot-sc
 returns-then-ballot-sc c =
+    let facts : Ready c.args.self (length c.args.room.now) = let a_facts = c.args in (owner_facts a_facts.self _ a_facts.peer a_facts.ballot (sym c.from_owner-first.ensures ∙ c.if-first-ne0.false)).sender.facts in
     let a = c.args in
     keep 0 a.self c.kept-then-ballot-sc.ensures
     (accept_old a.self _ a.peer a.slot a.ballot a.batch _ c.from_owner-first.ensures c.if-first-ne0.false _ c.make-made.ensures c.if-made-ne0.false c.if-slot-sc.false c.if-ballot-sc.true)
-    ((let it-facts : Ready c.args.self (length c.args.room.now) = (let a_facts = c.args in
-    (owner_facts a_facts.self _ a_facts.peer a_facts.ballot (sym c.from_owner-first.ensures ∙ c.if-first-ne0.false)).sender.facts) in it-facts)).sum
+    facts.sum
 
 pub overflow_add-sc : goal.overflow_add-sc
 overflow_add-sc c =
-    let f = (let it-facts : Ready c.args.self (length c.args.room.now) = (let a_facts = c.args in
-    (owner_facts a_facts.self _ a_facts.peer a_facts.ballot (sym c.from_owner-first.ensures ∙ c.if-first-ne0.false)).sender.facts) in it-facts) in
+    let facts : Ready c.args.self (length c.args.room.now) = let a_facts = c.args in (owner_facts a_facts.self _ a_facts.peer a_facts.ballot (sym c.from_owner-first.ensures ∙ c.if-first-ne0.false)).sender.facts in
+    let f = facts in
     omega arith
 
 pub returns-then-sc-slot : goal.returns-then-sc-slot
@@ -49,9 +49,9 @@ returns-then-sc-slot c =
 
 pub settle-requires : goal.settle-requires
 settle-requires c =
+    let facts : Ready c.args.self (length c.args.room.now) = let a_facts = c.args in (owner_facts a_facts.self _ a_facts.peer a_facts.ballot (sym c.from_owner-first.ensures ∙ c.if-first-ne0.false)).sender.facts in
     let a = c.args in
-    accept_fits a.self (a.slot - a.self.sc.start) a.peer a.slot a.ballot _ _ ((let it-facts : Ready c.args.self (length c.args.room.now) = (let a_facts = c.args in
-    (owner_facts a_facts.self _ a_facts.peer a_facts.ballot (sym c.from_owner-first.ensures ∙ c.if-first-ne0.false)).sender.facts) in it-facts)) c.grow_to-w.ensures (omega (arith, c.if-sc-slot.false)) (omega (arith, c.if-slot-sc.false)) c.decide_accept-d.ensures
+    accept_fits a.self (a.slot - a.self.sc.start) a.peer a.slot a.ballot _ _ facts c.grow_to-w.ensures (omega (arith, c.if-sc-slot.false)) (omega (arith, c.if-slot-sc.false)) c.decide_accept-d.ensures
 
 pub returns : goal.returns
 returns c =

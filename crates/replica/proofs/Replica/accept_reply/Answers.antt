@@ -15,24 +15,24 @@ returns-then-first-ne0 c =
 
 pub returns-then-slot-sc : goal.returns-then-slot-sc
 returns-then-slot-sc c =
+    let facts : Ready c.args.self (length c.args.room.now) = let a_facts = c.args in (peer_facts a_facts.self _ a_facts.peer (sym c.from_peer-first.ensures ∙ c.if-first-ne0.false)).facts in
     let a = c.args in
     keep 0 a.self c.kept-then-slot-sc.ensures
     (accept_reply_below a.self _ a.peer a.slot a.ballot _ c.from_peer-first.ensures c.if-first-ne0.false c.if-slot-sc.true)
-    ((let it-facts : Ready c.args.self (length c.args.room.now) = (let a_facts = c.args in
-    (peer_facts a_facts.self _ a_facts.peer (sym c.from_peer-first.ensures ∙ c.if-first-ne0.false)).facts) in it-facts)).sum
+    facts.sum
 
 pub returns-then-ballot-sc : goal.returns-then-ballot-sc
 returns-then-ballot-sc c =
+    let facts : Ready c.args.self (length c.args.room.now) = let a_facts = c.args in (peer_facts a_facts.self _ a_facts.peer (sym c.from_peer-first.ensures ∙ c.if-first-ne0.false)).facts in
     let a = c.args in
     keep 0 a.self c.kept-then-ballot-sc.ensures
     (accept_reply_other a.self _ a.peer a.slot a.ballot _ c.from_peer-first.ensures c.if-first-ne0.false c.if-slot-sc.false c.if-ballot-sc.true)
-    ((let it-facts : Ready c.args.self (length c.args.room.now) = (let a_facts = c.args in
-    (peer_facts a_facts.self _ a_facts.peer (sym c.from_peer-first.ensures ∙ c.if-first-ne0.false)).facts) in it-facts)).sum
+    facts.sum
 
 pub overflow_add-end : goal.overflow_add-end
 overflow_add-end c =
-    let f = (let it-facts : Ready c.args.self (length c.args.room.now) = (let a_facts = c.args in
-    (peer_facts a_facts.self _ a_facts.peer (sym c.from_peer-first.ensures ∙ c.if-first-ne0.false)).facts) in it-facts) in
+    let facts : Ready c.args.self (length c.args.room.now) = let a_facts = c.args in (peer_facts a_facts.self _ a_facts.peer (sym c.from_peer-first.ensures ∙ c.if-first-ne0.false)).facts in
+    let f = facts in
     omega arith
 
 pub returns-then-end-slot : goal.returns-then-end-slot
@@ -43,21 +43,22 @@ returns-then-end-slot c =
 
 pub offset_bounds-w-i : goal.offset_bounds-w-i
 offset_bounds-w-i c =
-    let h = (let it-inside : c.args.slot - c.args.self.sc.start < 64 = (let f_inside = (let it-facts : Ready c.args.self (length c.args.room.now) = (let a_facts = c.args in
-    (peer_facts a_facts.self _ a_facts.peer (sym c.from_peer-first.ensures ∙ c.if-first-ne0.false)).facts) in it-facts) in
-    omega arith) in it-inside) in
+    let facts : Ready c.args.self (length c.args.room.now) = let a_facts = c.args in (peer_facts a_facts.self _ a_facts.peer (sym c.from_peer-first.ensures ∙ c.if-first-ne0.false)).facts in
+    let inside : c.args.slot - c.args.self.sc.start < 64 = let f_inside = facts in omega arith in
+    let h = inside in
     omega arith
 
 pub bounds-w-i : goal.bounds-w-i
-bounds-w-i c = (let it-inside : c.args.slot - c.args.self.sc.start < 64 = (let f_inside = (let it-facts : Ready c.args.self (length c.args.room.now) = (let a_facts = c.args in
-    (peer_facts a_facts.self _ a_facts.peer (sym c.from_peer-first.ensures ∙ c.if-first-ne0.false)).facts) in it-facts) in
-    omega arith) in it-inside)
+bounds-w-i c =
+    let facts : Ready c.args.self (length c.args.room.now) = let a_facts = c.args in (peer_facts a_facts.self _ a_facts.peer (sym c.from_peer-first.ensures ∙ c.if-first-ne0.false)).facts in
+    let inside : c.args.slot - c.args.self.sc.start < 64 = let f_inside = facts in omega arith in
+    inside
 
 pub settle-requires : goal.settle-requires
 settle-requires c =
+    let facts : Ready c.args.self (length c.args.room.now) = let a_facts = c.args in (peer_facts a_facts.self _ a_facts.peer (sym c.from_peer-first.ensures ∙ c.if-first-ne0.false)).facts in
     let a = c.args in
-    let f = (let it-facts : Ready c.args.self (length c.args.room.now) = (let a_facts = c.args in
-    (peer_facts a_facts.self _ a_facts.peer (sym c.from_peer-first.ensures ∙ c.if-first-ne0.false)).facts) in it-facts) in
+    let f = facts in
     accept_reply_fits a.self (a.slot - a.self.sc.start) a.peer a.slot a.ballot _ f (omega (arith, c.if-end-slot.false, c.if-slot-sc.false)) (omega (arith, c.if-slot-sc.false)) c.decide_accept_reply-d.ensures
 
 pub returns : goal.returns

@@ -15,20 +15,24 @@ returns-then-first-ne0 c =
 
 pub returns-then-ballot-sc : goal.returns-then-ballot-sc
 returns-then-ballot-sc c =
+    let facts : Ready c.args.self (length c.args.room.now) = let a_facts = c.args in (owner_facts a_facts.self _ a_facts.peer a_facts.ballot (sym c.from_owner-first.ensures ∙ c.if-first-ne0.false)).sender.facts in
     let a = c.args in
     keep 0 a.self c.kept-then-ballot-sc.ensures
     (notice_other a.self a.ballot a.bar (length a.room.now) a.peer _ c.from_owner-first.ensures c.if-first-ne0.false c.if-ballot-sc.true)
-    ((let it-facts : Ready c.args.self (length c.args.room.now) = (let a_facts = c.args in (owner_facts a_facts.self _ a_facts.peer a_facts.ballot (sym c.from_owner-first.ensures ∙ c.if-first-ne0.false)).sender.facts) in it-facts)).sum
+    facts.sum
 
 pub returns-then-bar-sc : goal.returns-then-bar-sc
 returns-then-bar-sc c =
+    let facts : Ready c.args.self (length c.args.room.now) = let a_facts = c.args in (owner_facts a_facts.self _ a_facts.peer a_facts.ballot (sym c.from_owner-first.ensures ∙ c.if-first-ne0.false)).sender.facts in
     let a = c.args in
     keep 0 a.self c.kept-then-bar-sc.ensures
     (notice_known a.self a.ballot a.bar (length a.room.now) a.peer _ c.from_owner-first.ensures c.if-first-ne0.false c.if-ballot-sc.false c.if-bar-sc.true)
-    ((let it-facts : Ready c.args.self (length c.args.room.now) = (let a_facts = c.args in (owner_facts a_facts.self _ a_facts.peer a_facts.ballot (sym c.from_owner-first.ensures ∙ c.if-first-ne0.false)).sender.facts) in it-facts)).sum
+    facts.sum
 
 pub overflow_add-past : goal.overflow_add-past
-overflow_add-past c = omega (arith, ((let it-facts : Ready c.args.self (length c.args.room.now) = (let a_facts = c.args in (owner_facts a_facts.self _ a_facts.peer a_facts.ballot (sym c.from_owner-first.ensures ∙ c.if-first-ne0.false)).sender.facts) in it-facts)).low)
+overflow_add-past c =
+    let facts : Ready c.args.self (length c.args.room.now) = let a_facts = c.args in (owner_facts a_facts.self _ a_facts.peer a_facts.ballot (sym c.from_owner-first.ensures ∙ c.if-first-ne0.false)).sender.facts in
+    omega (arith, facts.low)
 
 pub returns-then-past-bar : goal.returns-then-past-bar
 returns-then-past-bar c =
@@ -37,17 +41,21 @@ returns-then-past-bar c =
     (notice_past a.self a.ballot a.bar (length a.room.now) a.peer _ c.from_owner-first.ensures c.if-first-ne0.false c.if-ballot-sc.false (omega (arith, c.if-bar-sc.false)) c.if-past-bar.true) refl
 
 pub overflow_sub-from : goal.overflow_sub-from
-overflow_sub-from c = let f = (let it-facts : Ready c.args.self (length c.args.room.now) = (let a_facts = c.args in (owner_facts a_facts.self _ a_facts.peer a_facts.ballot (sym c.from_owner-first.ensures ∙ c.if-first-ne0.false)).sender.facts) in it-facts) in omega (arith, f.exec_low, f.exec_high)
+overflow_sub-from c =
+    let facts : Ready c.args.self (length c.args.room.now) = let a_facts = c.args in (owner_facts a_facts.self _ a_facts.peer a_facts.ballot (sym c.from_owner-first.ensures ∙ c.if-first-ne0.false)).sender.facts in
+    let f = facts in omega (arith, f.exec_low, f.exec_high)
 
 pub overflow_sub-to : goal.overflow_sub-to
 overflow_sub-to c =
-    let f = (let it-facts : Ready c.args.self (length c.args.room.now) = (let a_facts = c.args in (owner_facts a_facts.self _ a_facts.peer a_facts.ballot (sym c.from_owner-first.ensures ∙ c.if-first-ne0.false)).sender.facts) in it-facts) in
+    let facts : Ready c.args.self (length c.args.room.now) = let a_facts = c.args in (owner_facts a_facts.self _ a_facts.peer a_facts.ballot (sym c.from_owner-first.ensures ∙ c.if-first-ne0.false)).sender.facts in
+    let f = facts in
     omega (arith, f.exec_low, f.exec_high, c.if-bar-sc.false)
 
 pub mark_on-requires : goal.mark_on-requires
 mark_on-requires c =
+    let facts : Ready c.args.self (length c.args.room.now) = let a_facts = c.args in (owner_facts a_facts.self _ a_facts.peer a_facts.ballot (sym c.from_owner-first.ensures ∙ c.if-first-ne0.false)).sender.facts in
     let a = c.args in
-    mark_fits a.self a.ballot a.bar c.grow_to-w.result _ ((let it-facts : Ready c.args.self (length c.args.room.now) = (let a_facts = c.args in (owner_facts a_facts.self _ a_facts.peer a_facts.ballot (sym c.from_owner-first.ensures ∙ c.if-first-ne0.false)).sender.facts) in it-facts)) (omega (arith, c.if-bar-sc.false)) (omega (arith, c.if-past-bar.false)) c.grow_to-w.ensures c.stop-stop.ensures
+    mark_fits a.self a.ballot a.bar c.grow_to-w.result _ facts (omega (arith, c.if-bar-sc.false)) (omega (arith, c.if-past-bar.false)) c.grow_to-w.ensures c.stop-stop.ensures
 
 pub returns : goal.returns
 returns c =

@@ -22,34 +22,46 @@ returns-then-first-ne0 c =
 
 pub returns-then-made-ne0 : goal.returns-then-made-ne0
 returns-then-made-ne0 c =
+    let fine : ready c.args.self (length c.args.room.now) ≡ true = ready_by _ _ c.test_ready-first.ensures c.if-first-ne0.false in
     let a = c.args in
     refuse 10 a.self c.kept-then-made-ne0.ensures
-    (offer_none a.self _ a.batch ((let it-fine : ready c.args.self (length c.args.room.now) ≡ true = (ready_by _ _ c.test_ready-first.ensures c.if-first-ne0.false) in it-fine)) (batch_none a.batch _ c.make-made.ensures c.if-made-ne0.true)) refl
+    (offer_none a.self _ a.batch fine (batch_none a.batch _ c.make-made.ensures c.if-made-ne0.true)) refl
 
 pub returns-then-not-may_offer : goal.returns-then-not-may_offer
 returns-then-not-may_offer c =
+    let fine : ready c.args.self (length c.args.room.now) ≡ true = ready_by _ _ c.test_ready-first.ensures c.if-first-ne0.false in
+    let batched : is_batch c.args.batch.id c.args.batch.count ≡ true = batch_some c.args.batch _ c.make-made.ensures c.if-made-ne0.false in
     let a = c.args in
     refuse 9 a.self c.kept-then-not-may_offer.ensures
-    (offer_denied a.self _ a.batch ((let it-fine : ready c.args.self (length c.args.room.now) ≡ true = (ready_by _ _ c.test_ready-first.ensures c.if-first-ne0.false) in it-fine)) ((let it-batched : is_batch c.args.batch.id c.args.batch.count ≡ true = (batch_some c.args.batch _ c.make-made.ensures c.if-made-ne0.false) in it-batched)) (refuted c.may_offer.ensures (ap not c.if-not-may_offer.true))) refl
+    (offer_denied a.self _ a.batch fine batched (refuted c.may_offer.ensures (ap not c.if-not-may_offer.true))) refl
 
 pub returns-then-len-ge64 : goal.returns-then-len-ge64
 returns-then-len-ge64 c =
+    let fine : ready c.args.self (length c.args.room.now) ≡ true = ready_by _ _ c.test_ready-first.ensures c.if-first-ne0.false in
+    let batched : is_batch c.args.batch.id c.args.batch.count ≡ true = batch_some c.args.batch _ c.make-made.ensures c.if-made-ne0.false in
     let a = c.args in
     refuse 5 a.self c.kept-then-len-ge64.ensures
-    (offer_full a.self _ a.batch ((let it-fine : ready c.args.self (length c.args.room.now) ≡ true = (ready_by _ _ c.test_ready-first.ensures c.if-first-ne0.false) in it-fine)) ((let it-batched : is_batch c.args.batch.id c.args.batch.count ≡ true = (batch_some c.args.batch _ c.make-made.ensures c.if-made-ne0.false) in it-batched)) (granted c.may_offer.ensures (ap not c.if-not-may_offer.false)) c.if-len-ge64.true) refl
+    (offer_full a.self _ a.batch fine batched (granted c.may_offer.ensures (ap not c.if-not-may_offer.false)) c.if-len-ge64.true) refl
 
 pub overflow_add-slot : goal.overflow_add-slot
-overflow_add-slot c = let f = (let it-facts : Ready c.args.self (length c.args.room.now) = (ready_facts c.args.self (length c.args.room.now) ((let it-fine : ready c.args.self (length c.args.room.now) ≡ true = (ready_by _ _ c.test_ready-first.ensures c.if-first-ne0.false) in it-fine))) in it-facts) in omega (arith, f.low, f.within)
+overflow_add-slot c =
+    let fine : ready c.args.self (length c.args.room.now) ≡ true = ready_by _ _ c.test_ready-first.ensures c.if-first-ne0.false in
+    let facts : Ready c.args.self (length c.args.room.now) = ready_facts c.args.self (length c.args.room.now) fine in
+    let f = facts in omega (arith, f.low, f.within)
 
 pub settle-requires : goal.settle-requires
 settle-requires c =
+    let fine : ready c.args.self (length c.args.room.now) ≡ true = ready_by _ _ c.test_ready-first.ensures c.if-first-ne0.false in
+    let facts : Ready c.args.self (length c.args.room.now) = ready_facts c.args.self (length c.args.room.now) fine in
     let a = c.args in
-    offer_fits a.self _ _ _ ((let it-facts : Ready c.args.self (length c.args.room.now) = (ready_facts c.args.self (length c.args.room.now) ((let it-fine : ready c.args.self (length c.args.room.now) ≡ true = (ready_by _ _ c.test_ready-first.ensures c.if-first-ne0.false) in it-fine))) in it-facts)) c.if-len-ge64.false c.grow_to-w.ensures refl c.decide_offer-d.ensures
+    offer_fits a.self _ _ _ facts c.if-len-ge64.false c.grow_to-w.ensures refl c.decide_offer-d.ensures
 
 pub returns : goal.returns
 returns c =
+    let fine : ready c.args.self (length c.args.room.now) ≡ true = ready_by _ _ c.test_ready-first.ensures c.if-first-ne0.false in
+    let batched : is_batch c.args.batch.id c.args.batch.count ≡ true = batch_some c.args.batch _ c.make-made.ensures c.if-made-ne0.false in
     let a = c.args in
     told
-    (offer_settles a.self _ a.batch ((let it-fine : ready c.args.self (length c.args.room.now) ≡ true = (ready_by _ _ c.test_ready-first.ensures c.if-first-ne0.false) in it-fine)) ((let it-batched : is_batch c.args.batch.id c.args.batch.count ≡ true = (batch_some c.args.batch _ c.make-made.ensures c.if-made-ne0.false) in it-batched)) (granted c.may_offer.ensures (ap not c.if-not-may_offer.false)) c.if-len-ge64.false _ _ _ c.grow_to-w.ensures
+    (offer_settles a.self _ a.batch fine batched (granted c.may_offer.ensures (ap not c.if-not-may_offer.false)) c.if-len-ge64.false _ _ _ c.grow_to-w.ensures
     (ap (λ (m : Made). m.batch) c.make-made.ensures) c.decide_offer-d.ensures)
     c.settle.ensures

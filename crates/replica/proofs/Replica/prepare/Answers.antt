@@ -15,24 +15,24 @@ returns-then-first-ne0 c =
 
 pub returns-then-trigger-sc : goal.returns-then-trigger-sc
 returns-then-trigger-sc c =
+    let facts : Ready c.args.self (length c.args.room.now) = let a_facts = c.args in (owner_facts a_facts.self _ a_facts.peer a_facts.ballot (sym c.from_owner-first.ensures ∙ c.if-first-ne0.false)).sender.facts in
     let a = c.args in
     keep 0 a.self c.kept-then-trigger-sc.ensures
     (prepare_below a.self _ a.peer a.trigger a.ballot _ c.from_owner-first.ensures c.if-first-ne0.false c.if-trigger-sc.true)
-    ((let it-facts : Ready c.args.self (length c.args.room.now) = (let a_facts = c.args in
-    (owner_facts a_facts.self _ a_facts.peer a_facts.ballot (sym c.from_owner-first.ensures ∙ c.if-first-ne0.false)).sender.facts) in it-facts)).sum
+    facts.sum
 
 pub returns-then-ballot-sc : goal.returns-then-ballot-sc
 returns-then-ballot-sc c =
+    let facts : Ready c.args.self (length c.args.room.now) = let a_facts = c.args in (owner_facts a_facts.self _ a_facts.peer a_facts.ballot (sym c.from_owner-first.ensures ∙ c.if-first-ne0.false)).sender.facts in
     let a = c.args in
     keep 0 a.self c.kept-then-ballot-sc.ensures
     (prepare_old a.self _ a.peer a.trigger a.ballot _ c.from_owner-first.ensures c.if-first-ne0.false c.if-trigger-sc.false c.if-ballot-sc.true)
-    ((let it-facts : Ready c.args.self (length c.args.room.now) = (let a_facts = c.args in
-    (owner_facts a_facts.self _ a_facts.peer a_facts.ballot (sym c.from_owner-first.ensures ∙ c.if-first-ne0.false)).sender.facts) in it-facts)).sum
+    facts.sum
 
 pub overflow_add-sc : goal.overflow_add-sc
 overflow_add-sc c =
-    let f = (let it-facts : Ready c.args.self (length c.args.room.now) = (let a_facts = c.args in
-    (owner_facts a_facts.self _ a_facts.peer a_facts.ballot (sym c.from_owner-first.ensures ∙ c.if-first-ne0.false)).sender.facts) in it-facts) in
+    let facts : Ready c.args.self (length c.args.room.now) = let a_facts = c.args in (owner_facts a_facts.self _ a_facts.peer a_facts.ballot (sym c.from_owner-first.ensures ∙ c.if-first-ne0.false)).sender.facts in
+    let f = facts in
     omega arith
 
 pub returns-then-sc-trigger : goal.returns-then-sc-trigger
@@ -43,9 +43,9 @@ returns-then-sc-trigger c =
 
 pub prepare_on-requires : goal.prepare_on-requires
 prepare_on-requires c =
+    let facts : Ready c.args.self (length c.args.room.now) = let a_facts = c.args in (owner_facts a_facts.self _ a_facts.peer a_facts.ballot (sym c.from_owner-first.ensures ∙ c.if-first-ne0.false)).sender.facts in
     let a = c.args in
-    prepare_fits a.self (a.trigger - a.self.sc.start) _ ((let it-facts : Ready c.args.self (length c.args.room.now) = (let a_facts = c.args in
-    (owner_facts a_facts.self _ a_facts.peer a_facts.ballot (sym c.from_owner-first.ensures ∙ c.if-first-ne0.false)).sender.facts) in it-facts)) c.grow_to-w.ensures (omega arith)
+    prepare_fits a.self (a.trigger - a.self.sc.start) _ facts c.grow_to-w.ensures (omega arith)
 
 pub returns : goal.returns
 returns c =

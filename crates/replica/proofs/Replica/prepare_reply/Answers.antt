@@ -15,17 +15,17 @@ returns-then-first-ne0 c =
 
 pub returns-then-bad_vote : goal.returns-then-bad_vote
 returns-then-bad_vote c =
+    let opened : prepare_reply_step c.args.self (length c.args.room.now) c.args.peer c.args.m ≡ reply_tested c.args.self (length c.args.room.now) c.args.peer c.args.m = let a_opened = c.args in gate_open _ _ a_opened.self _ (reply_gate a_opened.self (length a_opened.room.now) a_opened.peer a_opened.m) c.from_peer-first.ensures c.if-first-ne0.false in
     let a = c.args in
     refuse 10 a.self c.kept-then-bad_vote.ensures
-    ((let it-opened : prepare_reply_step c.args.self (length c.args.room.now) c.args.peer c.args.m ≡ reply_tested c.args.self (length c.args.room.now) c.args.peer c.args.m = (let a_opened = c.args in
-    gate_open _ _ a_opened.self _ (reply_gate a_opened.self (length a_opened.room.now) a_opened.peer a_opened.m) c.from_peer-first.ensures c.if-first-ne0.false) in it-opened) ∙ reply_bad a.self (length a.room.now) a.peer a.m c.make-made.ensures c.bad_vote.ensures c.if-bad_vote.true) refl
+    (opened ∙ reply_bad a.self (length a.room.now) a.peer a.m c.make-made.ensures c.bad_vote.ensures c.if-bad_vote.true) refl
 
 pub returns-then-m-self : goal.returns-then-m-self
 returns-then-m-self c =
+    let opened : prepare_reply_step c.args.self (length c.args.room.now) c.args.peer c.args.m ≡ reply_tested c.args.self (length c.args.room.now) c.args.peer c.args.m = let a_opened = c.args in gate_open _ _ a_opened.self _ (reply_gate a_opened.self (length a_opened.room.now) a_opened.peer a_opened.m) c.from_peer-first.ensures c.if-first-ne0.false in
     let a = c.args in
     keep 0 a.self c.kept-then-m-self.ensures
-    ((let it-opened : prepare_reply_step c.args.self (length c.args.room.now) c.args.peer c.args.m ≡ reply_tested c.args.self (length c.args.room.now) c.args.peer c.args.m = (let a_opened = c.args in
-    gate_open _ _ a_opened.self _ (reply_gate a_opened.self (length a_opened.room.now) a_opened.peer a_opened.m) c.from_peer-first.ensures c.if-first-ne0.false) in it-opened) ∙ reply_below a.self (length a.room.now) a.peer a.m c.make-made.ensures c.bad_vote.ensures c.if-bad_vote.false c.if-m-self.true)
+    (opened ∙ reply_below a.self (length a.room.now) a.peer a.m c.make-made.ensures c.bad_vote.ensures c.if-bad_vote.false c.if-m-self.true)
     (peer_facts a.self _ a.peer (sym c.from_peer-first.ensures ∙ c.if-first-ne0.false)).facts.sum
 
 pub reply_on-requires : goal.reply_on-requires
@@ -36,9 +36,9 @@ reply_on-requires c =
 
 pub returns : goal.returns
 returns c =
+    let opened : prepare_reply_step c.args.self (length c.args.room.now) c.args.peer c.args.m ≡ reply_tested c.args.self (length c.args.room.now) c.args.peer c.args.m = let a_opened = c.args in gate_open _ _ a_opened.self _ (reply_gate a_opened.self (length a_opened.room.now) a_opened.peer a_opened.m) c.from_peer-first.ensures c.if-first-ne0.false in
     let a = c.args in
     told
-    ((let it-opened : prepare_reply_step c.args.self (length c.args.room.now) c.args.peer c.args.m ≡ reply_tested c.args.self (length c.args.room.now) c.args.peer c.args.m = (let a_opened = c.args in
-    gate_open _ _ a_opened.self _ (reply_gate a_opened.self (length a_opened.room.now) a_opened.peer a_opened.m) c.from_peer-first.ensures c.if-first-ne0.false) in it-opened)
+    (opened
     ∙ reply_goes a.self (length a.room.now) a.peer a.m c.make-made.ensures c.bad_vote.ensures c.if-bad_vote.false c.with_voted-clean.ensures c.if-m-self.false)
     c.reply_on.ensures

@@ -19,19 +19,22 @@ settle-requires c =
 
 pub returns-then-sc : goal.returns-then-sc
 returns-then-sc c =
+    let heeded : is_stale c.args.self.sc (slot_at c.args.self.window c.args.i) c.args.ballot false ≡ false = flag c.is_stale.ensures c.if-is_stale.false in
     let a = c.args in
-    told (prepared_follows a.self a.i a.slot a.ballot _ _ ((let it-heeded : is_stale c.args.self.sc (slot_at c.args.self.window c.args.i) c.args.ballot false ≡ false = (flag c.is_stale.ensures c.if-is_stale.false) in it-heeded)) c.if-sc.true c.decide_promised-d.ensures) c.settle.ensures
+    told (prepared_follows a.self a.i a.slot a.ballot _ _ heeded c.if-sc.true c.decide_promised-d.ensures) c.settle.ensures
 
 pub returns-then-not-s : goal.returns-then-not-s
 returns-then-not-s c =
+    let heeded : is_stale c.args.self.sc (slot_at c.args.self.window c.args.i) c.args.ballot false ≡ false = flag c.is_stale.ensures c.if-is_stale.false in
     let a = c.args in
-    keep 0 a.self c.kept-then-not-s.ensures (prepared_unbooked a.self a.i a.slot a.ballot _ ((let it-heeded : is_stale c.args.self.sc (slot_at c.args.self.window c.args.i) c.args.ballot false ≡ false = (flag c.is_stale.ensures c.if-is_stale.false) in it-heeded)) c.if-sc.false (not-true _ c.if-not-s.true))
+    keep 0 a.self c.kept-then-not-s.ensures (prepared_unbooked a.self a.i a.slot a.ballot _ heeded c.if-sc.false (not-true _ c.if-not-s.true))
     c.requires.sum
 
 pub returns-then-s-slot : goal.returns-then-s-slot
 returns-then-s-slot c =
+    let heeded : is_stale c.args.self.sc (slot_at c.args.self.window c.args.i) c.args.ballot false ≡ false = flag c.is_stale.ensures c.if-is_stale.false in
     let a = c.args in
-    keep 0 a.self c.kept-then-s-slot.ensures (prepared_past a.self a.i a.slot a.ballot _ ((let it-heeded : is_stale c.args.self.sc (slot_at c.args.self.window c.args.i) c.args.ballot false ≡ false = (flag c.is_stale.ensures c.if-is_stale.false) in it-heeded)) c.if-sc.false c.if-s-slot.true)
+    keep 0 a.self c.kept-then-s-slot.ensures (prepared_past a.self a.i a.slot a.ballot _ heeded c.if-sc.false c.if-s-slot.true)
     c.requires.sum
 
 pub reply_on-requires : goal.reply_on-requires
@@ -40,5 +43,6 @@ reply_on-requires c =
 
 pub returns : goal.returns
 returns c =
+    let heeded : is_stale c.args.self.sc (slot_at c.args.self.window c.args.i) c.args.ballot false ≡ false = flag c.is_stale.ensures c.if-is_stale.false in
     let a = c.args in
-    told (prepared_replies a.self a.i a.slot a.ballot _ ((let it-heeded : is_stale c.args.self.sc (slot_at c.args.self.window c.args.i) c.args.ballot false ≡ false = (flag c.is_stale.ensures c.if-is_stale.false) in it-heeded)) c.if-sc.false _ (not-false _ c.if-not-s.false) c.if-s-slot.false c.own_reply-m.ensures) c.reply_on.ensures
+    told (prepared_replies a.self a.i a.slot a.ballot _ heeded c.if-sc.false _ (not-false _ c.if-not-s.false) c.if-s-slot.false c.own_reply-m.ensures) c.reply_on.ensures

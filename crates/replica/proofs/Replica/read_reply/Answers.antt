@@ -19,21 +19,27 @@ returns-then-reply-gt8 c =
 
 pub returns-then-reads-at : goal.returns-then-reads-at
 returns-then-reads-at c =
+    let facts : FromMember c.args.self (length c.args.room.now) c.args.peer = member_facts _ _ _ (sym c.from_member-first.ensures ∙ c.if-first-ne0.false) in
     let a = c.args in
     keep 0 a.self c.kept-then-reads-at.ensures
     (reply_unknown a.self _ a.peer a.id a.from_leader a.reply _ c.from_member-first.ensures c.if-first-ne0.false c.if-reply-gt8.false _ c.find-at.ensures c.if-reads-at.true)
-    ((let it-facts : FromMember c.args.self (length c.args.room.now) c.args.peer = (member_facts _ _ _ (sym c.from_member-first.ensures ∙ c.if-first-ne0.false)) in it-facts)).facts.sum
+    facts.facts.sum
 
 pub offset_bounds-reads-at : goal.offset_bounds-reads-at
-offset_bounds-reads-at c = let f = (let it-facts : FromMember c.args.self (length c.args.room.now) c.args.peer = (member_facts _ _ _ (sym c.from_member-first.ensures ∙ c.if-first-ne0.false)) in it-facts) in omega (arith, f.facts.reads_few, c.if-reads-at.false)
+offset_bounds-reads-at c =
+    let facts : FromMember c.args.self (length c.args.room.now) c.args.peer = member_facts _ _ _ (sym c.from_member-first.ensures ∙ c.if-first-ne0.false) in
+    let f = facts in omega (arith, f.facts.reads_few, c.if-reads-at.false)
 
 pub bounds-reads-at : goal.bounds-reads-at
-bounds-reads-at c = let f = (let it-facts : FromMember c.args.self (length c.args.room.now) c.args.peer = (member_facts _ _ _ (sym c.from_member-first.ensures ∙ c.if-first-ne0.false)) in it-facts) in omega (arith, f.facts.reads_few, c.if-reads-at.false)
+bounds-reads-at c =
+    let facts : FromMember c.args.self (length c.args.room.now) c.args.peer = member_facts _ _ _ (sym c.from_member-first.ensures ∙ c.if-first-ne0.false) in
+    let f = facts in omega (arith, f.facts.reads_few, c.if-reads-at.false)
 
 pub replied-requires : goal.replied-requires
 replied-requires c =
+    let facts : FromMember c.args.self (length c.args.room.now) c.args.peer = member_facts _ _ _ (sym c.from_member-first.ensures ∙ c.if-first-ne0.false) in
     let a = c.args in
-    let f = (let it-facts : FromMember c.args.self (length c.args.room.now) c.args.peer = (member_facts _ _ _ (sym c.from_member-first.ensures ∙ c.if-first-ne0.false)) in it-facts) in
+    let f = facts in
     record {
       few = answers_few a.self _ _ _ _ _ _ f.facts.reads_fit c.if-reads-at.false c.reply_to-d.ensures;
       long = f.facts.long;

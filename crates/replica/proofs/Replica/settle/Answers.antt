@@ -21,16 +21,19 @@ returns-then-too_many c =
 
 pub returns-then-not-is_passed : goal.returns-then-not-is_passed
 returns-then-not-is_passed c =
+    let wide : c.args.i < length c.args.w.slots = let w_wide = c.well_formed.1.1.0 in omega (arith, c.requires.low, w_wide.1.1.1.0.1.0.1) in
     let a = c.args in
     settled-Told a.self _ a.i a.slot a.d c.if-d-ne0.false c.too_many.ensures c.if-too_many.false (omega (arith, c.requires.long)) c.say-n.ensures c.note_if-table.ensures
-    (settled_sums c.requires c.if-d-ne0.false ((let it-wide : c.args.i < length c.args.w.slots = (let w_wide = c.well_formed.1.1.0 in omega (arith, c.requires.low, w_wide.1.1.1.0.1.0.1)) in it-wide)) c.changed-sum.ensures c.is_passed.ensures (ap not c.if-not-is_passed.true))
+    (settled_sums c.requires c.if-d-ne0.false wide c.changed-sum.ensures c.is_passed.ensures (ap not c.if-not-is_passed.true))
 
 pub overflow_add-first : goal.overflow_add-first
 overflow_add-first c =
-    omega (arith, settled_open c.requires c.if-d-ne0.false ((let it-wide : c.args.i < length c.args.w.slots = (let w_wide = c.well_formed.1.1.0 in omega (arith, c.requires.low, w_wide.1.1.1.0.1.0.1)) in it-wide)) c.stop-open.ensures)
+    let wide : c.args.i < length c.args.w.slots = let w_wide = c.well_formed.1.1.0 in omega (arith, c.requires.low, w_wide.1.1.1.0.1.0.1) in
+    omega (arith, settled_open c.requires c.if-d-ne0.false wide c.stop-open.ensures)
 
 pub returns : goal.returns
 returns c =
+    let wide : c.args.i < length c.args.w.slots = let w_wide = c.well_formed.1.1.0 in omega (arith, c.requires.low, w_wide.1.1.1.0.1.0.1) in
     let a = c.args in
     settled-Told a.self _ a.i a.slot a.d c.if-d-ne0.false c.too_many.ensures c.if-too_many.false (omega (arith, c.requires.long)) c.say-n.ensures c.note_if-table.ensures
-    (settled_scanned c.requires c.if-d-ne0.false ((let it-wide : c.args.i < length c.args.w.slots = (let w_wide = c.well_formed.1.1.0 in omega (arith, c.requires.low, w_wide.1.1.1.0.1.0.1)) in it-wide)) c.changed-sum.ensures c.is_passed.ensures (ap not c.if-not-is_passed.false) c.stop-open.ensures)
+    (settled_scanned c.requires c.if-d-ne0.false wide c.changed-sum.ensures c.is_passed.ensures (ap not c.if-not-is_passed.false) c.stop-open.ensures)

@@ -23,13 +23,17 @@ returns-then-not-is_fit c =
     answer_unfit a.self a.room c.if-room-lt3456.false (unfit_scalars a.self (refuted c.is_fit.ensures (ap not c.if-not-is_fit.true)))
 
 pub overflow_sub-from : goal.overflow_sub-from
-overflow_sub-from c = (scalars_low c.args.self ((let it-numbers : fit_scalars c.args.self.sc c.args.self.window.len ≡ true = (granted c.is_fit.ensures (ap not c.if-not-is_fit.false)) in it-numbers))).1
+overflow_sub-from c =
+    let numbers : fit_scalars c.args.self.sc c.args.self.window.len ≡ true = granted c.is_fit.ensures (ap not c.if-not-is_fit.false) in
+    (scalars_low c.args.self numbers).1
 
 pub returns-then-not-seen : goal.returns-then-not-seen
 returns-then-not-seen c =
+    let numbers : fit_scalars c.args.self.sc c.args.self.window.len ≡ true = granted c.is_fit.ensures (ap not c.if-not-is_fit.false) in
+    let short : c.args.self.window.len ≤ 64 = scalars_len _ _ numbers in
     let a = c.args in
     answer_unfit a.self a.room c.if-room-lt3456.false
-    (unfit_slots a.self (seen_unfit a.self c.survey-seen.ensures ((let it-short : c.args.self.window.len ≤ 64 = (scalars_len _ _ ((let it-numbers : fit_scalars c.args.self.sc c.args.self.window.len ≡ true = (granted c.is_fit.ensures (ap not c.if-not-is_fit.false)) in it-numbers))) in it-short)) c.if-not-seen.true))
+    (unfit_slots a.self (seen_unfit a.self c.survey-seen.ensures short c.if-not-seen.true))
 
 pub returns-then-self-gt256 : goal.returns-then-self-gt256
 returns-then-self-gt256 c =
@@ -38,34 +42,49 @@ returns-then-self-gt256 c =
 
 pub returns-then-not-is_fit-2 : goal.returns-then-not-is_fit-2
 returns-then-not-is_fit-2 c =
+    let numbers : fit_scalars c.args.self.sc c.args.self.window.len ≡ true = granted c.is_fit.ensures (ap not c.if-not-is_fit.false) in
+    let short : c.args.self.window.len ≤ 64 = scalars_len _ _ numbers in
+    let slots : fit_slots c.args.self.sc.group c.args.self.window ≡ true = seen_fit c.args.self c.survey-seen.ensures short c.if-not-seen.false in
     let a = c.args in
     answer_unfit a.self a.room c.if-room-lt3456.false
-    (reads_unfit a.self ((let it-numbers : fit_scalars c.args.self.sc c.args.self.window.len ≡ true = (granted c.is_fit.ensures (ap not c.if-not-is_fit.false)) in it-numbers)) ((let it-slots : fit_slots c.args.self.sc.group c.args.self.window ≡ true = (seen_fit c.args.self c.survey-seen.ensures ((let it-short : c.args.self.window.len ≤ 64 = (scalars_len _ _ ((let it-numbers : fit_scalars c.args.self.sc c.args.self.window.len ≡ true = (granted c.is_fit.ensures (ap not c.if-not-is_fit.false)) in it-numbers))) in it-short)) c.if-not-seen.false) in it-slots)) c.if-self-gt256.false c.is_fit-2.ensures (ap not c.if-not-is_fit-2.true))
+    (reads_unfit a.self numbers slots c.if-self-gt256.false c.is_fit-2.ensures (ap not c.if-not-is_fit-2.true))
 
 pub overflow_add-first : goal.overflow_add-first
 overflow_add-first c =
+    let numbers : fit_scalars c.args.self.sc c.args.self.window.len ≡ true = granted c.is_fit.ensures (ap not c.if-not-is_fit.false) in
+    let short : c.args.self.window.len ≤ 64 = scalars_len _ _ numbers in
+    let slots : fit_slots c.args.self.sc.group c.args.self.window ≡ true = seen_fit c.args.self c.survey-seen.ensures short c.if-not-seen.false in
     let r = c.args.self in
-    omega (arith, scalars_low r ((let it-numbers : fit_scalars c.args.self.sc c.args.self.window.len ≡ true = (granted c.is_fit.ensures (ap not c.if-not-is_fit.false)) in it-numbers)), seen_place r c.survey-seen.ensures ((let it-short : c.args.self.window.len ≤ 64 = (scalars_len _ _ ((let it-numbers : fit_scalars c.args.self.sc c.args.self.window.len ≡ true = (granted c.is_fit.ensures (ap not c.if-not-is_fit.false)) in it-numbers))) in it-short)) ((let it-slots : fit_slots c.args.self.sc.group c.args.self.window ≡ true = (seen_fit c.args.self c.survey-seen.ensures ((let it-short : c.args.self.window.len ≤ 64 = (scalars_len _ _ ((let it-numbers : fit_scalars c.args.self.sc c.args.self.window.len ≡ true = (granted c.is_fit.ensures (ap not c.if-not-is_fit.false)) in it-numbers))) in it-short)) c.if-not-seen.false) in it-slots)), first_within r.window, (let it-short : c.args.self.window.len ≤ 64 = (scalars_len _ _ ((let it-numbers : fit_scalars c.args.self.sc c.args.self.window.len ≡ true = (granted c.is_fit.ensures (ap not c.if-not-is_fit.false)) in it-numbers))) in it-short))
+    omega (arith, scalars_low r numbers, seen_place r c.survey-seen.ensures short slots, first_within r.window, short)
 
 pub returns-then-self-first : goal.returns-then-self-first
 returns-then-self-first c =
+    let numbers : fit_scalars c.args.self.sc c.args.self.window.len ≡ true = granted c.is_fit.ensures (ap not c.if-not-is_fit.false) in
+    let short : c.args.self.window.len ≤ 64 = scalars_len _ _ numbers in
+    let slots : fit_slots c.args.self.sc.group c.args.self.window ≡ true = seen_fit c.args.self c.survey-seen.ensures short c.if-not-seen.false in
+    let fine : fit c.args.self ≡ true = let r_fine = c.args.self in granted (fit_ends r_fine numbers slots c.if-self-gt256.false c.is_fit-2.ensures) (ap not c.if-not-is_fit-2.false) in
     let a = c.args in
-    answer_unsummed a.self a.room c.if-room-lt3456.false ((let it-fine : fit c.args.self ≡ true = (let r_fine = c.args.self in
-    granted (fit_ends r_fine ((let it-numbers : fit_scalars c.args.self.sc c.args.self.window.len ≡ true = (granted c.is_fit.ensures (ap not c.if-not-is_fit.false)) in it-numbers)) ((let it-slots : fit_slots c.args.self.sc.group c.args.self.window ≡ true = (seen_fit c.args.self c.survey-seen.ensures ((let it-short : c.args.self.window.len ≤ 64 = (scalars_len _ _ ((let it-numbers : fit_scalars c.args.self.sc c.args.self.window.len ≡ true = (granted c.is_fit.ensures (ap not c.if-not-is_fit.false)) in it-numbers))) in it-short)) c.if-not-seen.false) in it-slots)) c.if-self-gt256.false c.is_fit-2.ensures) (ap not c.if-not-is_fit-2.false)) in it-fine))
-    (unsummed_first a.self (seen_first a.self c.survey-seen.ensures ((let it-short : c.args.self.window.len ≤ 64 = (scalars_len _ _ ((let it-numbers : fit_scalars c.args.self.sc c.args.self.window.len ≡ true = (granted c.is_fit.ensures (ap not c.if-not-is_fit.false)) in it-numbers))) in it-short)) ((let it-slots : fit_slots c.args.self.sc.group c.args.self.window ≡ true = (seen_fit c.args.self c.survey-seen.ensures ((let it-short : c.args.self.window.len ≤ 64 = (scalars_len _ _ ((let it-numbers : fit_scalars c.args.self.sc c.args.self.window.len ≡ true = (granted c.is_fit.ensures (ap not c.if-not-is_fit.false)) in it-numbers))) in it-short)) c.if-not-seen.false) in it-slots))) c.if-self-first.true)
+    answer_unsummed a.self a.room c.if-room-lt3456.false fine
+    (unsummed_first a.self (seen_first a.self c.survey-seen.ensures short slots) c.if-self-first.true)
 
 pub returns-then-self-seen : goal.returns-then-self-seen
 returns-then-self-seen c =
+    let numbers : fit_scalars c.args.self.sc c.args.self.window.len ≡ true = granted c.is_fit.ensures (ap not c.if-not-is_fit.false) in
+    let short : c.args.self.window.len ≤ 64 = scalars_len _ _ numbers in
+    let slots : fit_slots c.args.self.sc.group c.args.self.window ≡ true = seen_fit c.args.self c.survey-seen.ensures short c.if-not-seen.false in
+    let fine : fit c.args.self ≡ true = let r_fine = c.args.self in granted (fit_ends r_fine numbers slots c.if-self-gt256.false c.is_fit-2.ensures) (ap not c.if-not-is_fit-2.false) in
     let a = c.args in
     let s = c.survey-seen.ensures in
-    answer_unsummed a.self a.room c.if-room-lt3456.false ((let it-fine : fit c.args.self ≡ true = (let r_fine = c.args.self in
-    granted (fit_ends r_fine ((let it-numbers : fit_scalars c.args.self.sc c.args.self.window.len ≡ true = (granted c.is_fit.ensures (ap not c.if-not-is_fit.false)) in it-numbers)) ((let it-slots : fit_slots c.args.self.sc.group c.args.self.window ≡ true = (seen_fit c.args.self c.survey-seen.ensures ((let it-short : c.args.self.window.len ≤ 64 = (scalars_len _ _ ((let it-numbers : fit_scalars c.args.self.sc c.args.self.window.len ≡ true = (granted c.is_fit.ensures (ap not c.if-not-is_fit.false)) in it-numbers))) in it-short)) c.if-not-seen.false) in it-slots)) c.if-self-gt256.false c.is_fit-2.ensures) (ap not c.if-not-is_fit-2.false)) in it-fine))
-    (unsummed_accepting a.self (seen_first a.self s ((let it-short : c.args.self.window.len ≤ 64 = (scalars_len _ _ ((let it-numbers : fit_scalars c.args.self.sc c.args.self.window.len ≡ true = (granted c.is_fit.ensures (ap not c.if-not-is_fit.false)) in it-numbers))) in it-short)) ((let it-slots : fit_slots c.args.self.sc.group c.args.self.window ≡ true = (seen_fit c.args.self c.survey-seen.ensures ((let it-short : c.args.self.window.len ≤ 64 = (scalars_len _ _ ((let it-numbers : fit_scalars c.args.self.sc c.args.self.window.len ≡ true = (granted c.is_fit.ensures (ap not c.if-not-is_fit.false)) in it-numbers))) in it-short)) c.if-not-seen.false) in it-slots))) (seen_accepting a.self s ((let it-short : c.args.self.window.len ≤ 64 = (scalars_len _ _ ((let it-numbers : fit_scalars c.args.self.sc c.args.self.window.len ≡ true = (granted c.is_fit.ensures (ap not c.if-not-is_fit.false)) in it-numbers))) in it-short)) ((let it-slots : fit_slots c.args.self.sc.group c.args.self.window ≡ true = (seen_fit c.args.self c.survey-seen.ensures ((let it-short : c.args.self.window.len ≤ 64 = (scalars_len _ _ ((let it-numbers : fit_scalars c.args.self.sc c.args.self.window.len ≡ true = (granted c.is_fit.ensures (ap not c.if-not-is_fit.false)) in it-numbers))) in it-short)) c.if-not-seen.false) in it-slots))) c.if-self-seen.true)
+    answer_unsummed a.self a.room c.if-room-lt3456.false fine
+    (unsummed_accepting a.self (seen_first a.self s short slots) (seen_accepting a.self s short slots) c.if-self-seen.true)
 
 pub returns : goal.returns
 returns c =
+    let numbers : fit_scalars c.args.self.sc c.args.self.window.len ≡ true = granted c.is_fit.ensures (ap not c.if-not-is_fit.false) in
+    let short : c.args.self.window.len ≤ 64 = scalars_len _ _ numbers in
+    let slots : fit_slots c.args.self.sc.group c.args.self.window ≡ true = seen_fit c.args.self c.survey-seen.ensures short c.if-not-seen.false in
+    let fine : fit c.args.self ≡ true = let r_fine = c.args.self in granted (fit_ends r_fine numbers slots c.if-self-gt256.false c.is_fit-2.ensures) (ap not c.if-not-is_fit-2.false) in
     let a = c.args in
     let s = c.survey-seen.ensures in
-    answer_ready a.self a.room c.if-room-lt3456.false ((let it-fine : fit c.args.self ≡ true = (let r_fine = c.args.self in
-    granted (fit_ends r_fine ((let it-numbers : fit_scalars c.args.self.sc c.args.self.window.len ≡ true = (granted c.is_fit.ensures (ap not c.if-not-is_fit.false)) in it-numbers)) ((let it-slots : fit_slots c.args.self.sc.group c.args.self.window ≡ true = (seen_fit c.args.self c.survey-seen.ensures ((let it-short : c.args.self.window.len ≤ 64 = (scalars_len _ _ ((let it-numbers : fit_scalars c.args.self.sc c.args.self.window.len ≡ true = (granted c.is_fit.ensures (ap not c.if-not-is_fit.false)) in it-numbers))) in it-short)) c.if-not-seen.false) in it-slots)) c.if-self-gt256.false c.is_fit-2.ensures) (ap not c.if-not-is_fit-2.false)) in it-fine))
-    (summed_both a.self (seen_first a.self s ((let it-short : c.args.self.window.len ≤ 64 = (scalars_len _ _ ((let it-numbers : fit_scalars c.args.self.sc c.args.self.window.len ≡ true = (granted c.is_fit.ensures (ap not c.if-not-is_fit.false)) in it-numbers))) in it-short)) ((let it-slots : fit_slots c.args.self.sc.group c.args.self.window ≡ true = (seen_fit c.args.self c.survey-seen.ensures ((let it-short : c.args.self.window.len ≤ 64 = (scalars_len _ _ ((let it-numbers : fit_scalars c.args.self.sc c.args.self.window.len ≡ true = (granted c.is_fit.ensures (ap not c.if-not-is_fit.false)) in it-numbers))) in it-short)) c.if-not-seen.false) in it-slots))) (seen_accepting a.self s ((let it-short : c.args.self.window.len ≤ 64 = (scalars_len _ _ ((let it-numbers : fit_scalars c.args.self.sc c.args.self.window.len ≡ true = (granted c.is_fit.ensures (ap not c.if-not-is_fit.false)) in it-numbers))) in it-short)) ((let it-slots : fit_slots c.args.self.sc.group c.args.self.window ≡ true = (seen_fit c.args.self c.survey-seen.ensures ((let it-short : c.args.self.window.len ≤ 64 = (scalars_len _ _ ((let it-numbers : fit_scalars c.args.self.sc c.args.self.window.len ≡ true = (granted c.is_fit.ensures (ap not c.if-not-is_fit.false)) in it-numbers))) in it-short)) c.if-not-seen.false) in it-slots))) c.if-self-first.false c.if-self-seen.false)
+    answer_ready a.self a.room c.if-room-lt3456.false fine
+    (summed_both a.self (seen_first a.self s short slots) (seen_accepting a.self s short slots) c.if-self-first.false c.if-self-seen.false)
