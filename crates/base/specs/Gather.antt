@@ -1,5 +1,5 @@
 -- `gather g from to`: the lists g i for each i from `from` up to and without `to`, one after the other: what a loop writes.
-use Rattle.std.specs.Prelude.{◌≡◌, refl, List, [], ◌++◌, ◌⊎◌, ℕ, zero, suc, ◌+◌, ◌-◌, ◌*◌, ◌≤◌, ◌<◌, length, leb}
+use Rattle.std.specs.Prelude.{◌≡◌, refl, List, [], ◌++◌, ℕ, zero, suc, ◌+◌, ◌-◌, ◌*◌, ◌≤◌, ◌<◌, length, leb}
 use mathlib.Core.List.Memᴰ
 use Rattle.std.proofs.Common.{⊎_elim, le_refl, eq-or-lt_of_le, add-one, arith, length-append, le-leb, leb-true}
 use Rattle.std.proofs.lemmas.Bool.{lt-leb}

@@ -1,6 +1,6 @@
 -- `how_many p from to`: at how many indices of a range a test holds.
-use Rattle.std.specs.Prelude.{◌≡◌, refl, Bool, true, false, ◌&&◌, ℕ, zero, suc, ◌+◌, ◌-◌, ◌≤◌, ◌<◌, leb}
-use Rattle.std.proofs.Common.{sym, ap, ◌∙◌, ⊎_elim, le_refl, eq-or-lt_of_le, add-one, arith, le-leb, leb-true}
+use Rattle.std.specs.Prelude.{◌≡◌, refl, Bool, true, false, ℕ, zero, suc, ◌+◌, ◌-◌, ◌≤◌, ◌<◌, leb}
+use Rattle.std.proofs.Common.{sym, ap, ⊎_elim, le_refl, eq-or-lt_of_le, add-one, arith, le-leb, leb-true}
 use Rattle.std.proofs.lemmas.Bool.{lt-leb}
 use Rattle.base.specs.Pick.{pick, one, pick_cases, tests}
 
