@@ -1,16 +1,30 @@
 # awk -f scripts/promises.awk FILE: 'name|given|wrong' for each `pub fn` of a source, also of one in an inline module. The name is Type::name for a method;
 # given is 1 where the promise gives the whole outcome by equations; wrong is what is wrong with it. The outcome is the result and what each `&mut` holds
-# after the call.
+# after the call. What stands under `#[test]` or `#[cfg(test)]` no host can reach: it is passed over.
 
-# comments left out, literals emptied
-function cleaned(s,   out, found) {
-  while (match(s, /\/\/|"|b'/)) {
-    out = out substr(s, 1, RSTART - 1)
+# comments left out, literals emptied; a lifetime and a prime stay
+function cleaned(s,   out, found, before) {
+  while (match(s, /\/\/|\/[*]|r#*"|"|'/)) {
     found = substr(s, RSTART, RLENGTH)
+    before = RSTART > 1 ? substr(s, RSTART - 1, 1) : substr(out, length(out))
+    out = out substr(s, 1, RSTART - 1)
     s = substr(s, RSTART + RLENGTH)
     if (found == "//") { s = index(s, "\n") ? substr(s, index(s, "\n")) : "" ; continue }
+    if (found == "/*") { s = index(s, "*/") ? substr(s, index(s, "*/") + 2) : "" ; continue }
+    if (found == "'") {
+      if ((before !~ /[A-Za-z0-9_']/ || out ~ /(^|[^A-Za-z0-9_'])b$/) && match(s, /^([^\\'\n\200-\377]|[\300-\377][\200-\277]+|\\[^\n][^'\n]*)'/)) { out = out "\"\""; s = substr(s, RLENGTH + 1) }
+      else out = out found
+      continue
+    }
+    if (found ~ /^r/ && before !~ /[A-Za-z0-9_]/ || found ~ /^r/ && out ~ /(^|[^A-Za-z0-9_])b$/) {
+      sub(/^r/, "", found)
+      found = "\"" substr(found, 1, length(found) - 1)
+      out = out "\"\""
+      s = index(s, found) ? substr(s, index(s, found) + length(found)) : ""
+      continue
+    }
+    if (found ~ /^r/) out = out substr(found, 1, length(found) - 1)
     out = out "\"\""
-    if (found == "b'") { s = substr(s, index(substr(s, 2), "'") + 2); continue }
     while (match(s, /\\.|"/)) {
       found = substr(s, RSTART, 1)
       s = substr(s, RSTART + RLENGTH)
@@ -31,6 +45,19 @@ function closes(s, i,   depth, at) {
     if (!depth) return at - 1
   }
   return 0
+}
+
+# what follows a list of type parameters, if s begins with one: no `>` of an arrow closes it
+function past_parameters(s,   depth, found, rest) {
+  if (s !~ /^[ \n]*</) return s
+  rest = s
+  while (match(rest, /->|=>|[<>]/)) {
+    found = substr(rest, RSTART, RLENGTH)
+    rest = substr(rest, RSTART + RLENGTH)
+    if (found == "<") depth++
+    if (found == ">" && !--depth) return rest
+  }
+  return s
 }
 
 # the last place of an operator outside all brackets, or 0
@@ -54,103 +81,219 @@ function trimmed(s) {
 
 function escaped(s) { gsub(/[().]/, "[&]", s); return s }
 
-function mentions(s, word) { return word != "_" && (" " s " ") ~ ("[^A-Za-z0-9_.-]" word "[^A-Za-z0-9_-]") }
+function mentions(s, word) { return (" " s " ") ~ ("[^A-Za-z0-9_.'-]" word "[^A-Za-z0-9_'-]") }
 
-# a part of the outcome alone: the result v, or what is lent, after the call
-function bare(s, v) { return s == v || s ~ /^now \([a-z_]+ \.exit\)$/ }
+# whether any `&mut` after the call is spoken of
+function mentions_after(s) { return (s " ") ~ /[.](new|exit)[^A-Za-z0-9_'-]/ }
+
+# a part of the outcome alone: the result, a name v that a λ gives it, or what is lent, after the call
+function bare(s, v) { return s !~ / / && index(" " v " ", " " s " ") || s ~ /^[A-Za-z_][A-Za-z0-9_]*[.](new|exit)$/ }
+
+# the arguments of a word, from the first of its text on: their number, and each in argument[1], argument[2], ..
+function arguments(s,   n, i) {
+  split("", argument)
+  while ((s = trimmed_left(s)) != "") {
+    i = 0
+    if (substr(s, 1, length("λ")) == "λ") i = length(s)
+    while (i < length(s) && substr(s, i + 1, 1) != " ") i = index("([{", substr(s, i + 1, 1)) ? closes(s, i + 1) : i + 1
+    argument[++n] = substr(s, 1, i)
+    s = substr(s, i + 1)
+  }
+  return n
+}
+function trimmed_left(s) { sub(/^ +/, "", s); return s }
+
+# a fact for one outcome of a test or a `Result` (the fact is the last argument), or for each of two
+function one_case(word) { return word ~ /^((On|If|For)(Ok|Err|Some|None)|On(True|False))$/ }
+function two_cases(word) { return word ~ /^Match(Result|Option|Bool)$/ }
 
 # as far as a text shows: a fact that every outcome meets
-function empty(fact, v,   i, left, right) {
+function empty(fact, v,   i, n, left, right, word, first, second) {
   fact = trimmed(fact)
   if (fact == "⊤" || fact ~ /^Unit( \{0\})?$/) return 1
-  if (i = outside(fact, "→")) return trimmed(substr(fact, 1, i - 1)) == "⊥" || empty(substr(fact, i + length("→")), v)
-  if (!(i = outside(fact, "≡")) && !(i = outside(fact, "≤"))) return 0
+  if (fact ~ /^∥.*∥₁$/) { sub(/^∥/, "", fact); sub(/∥₁$/, "", fact); return empty(fact, v) }
+  if (fact ~ /^let / && (i = outside(fact, " in "))) return empty(substr(fact, i + 4), v)
+  if (substr(fact, 1, length("λ")) == "λ" && (i = index(fact, "."))) {
+    left = substr(fact, length("λ") + 1, i - length("λ") - 1)
+    gsub(/[(),]/, " ", left)
+    return empty(substr(fact, i + 1), v " " trimmed(left))
+  }
+  if (i = outside(fact, "→")) {
+    left = trimmed(substr(fact, 1, i - 1))
+    right = trimmed(substr(fact, i + length("→")))
+    return left == "⊥" || left == right || empty(right, v)
+  }
+  if (i = outside(fact, "↔")) return trimmed(substr(fact, 1, i - 1)) == trimmed(substr(fact, i + length("↔")))
+  if (i = outside(fact, "⊎")) return empty(substr(fact, 1, i - 1), v) || empty(substr(fact, i + length("⊎")), v)
+  if (i = outside(fact, "×")) return empty(substr(fact, 1, i - 1), v) && empty(substr(fact, i + length("×")), v)
+  if (fact ~ /^¬/) return trimmed(substr(fact, length("¬") + 1)) == "⊥"
+  word = fact
+  sub(/ .*/, "", word)
+  if (word != fact && (one_case(word) || two_cases(word) || word ~ /^(IsTrue|IsOkUnless)$/)) {
+    n = arguments(substr(fact, length(word) + 1))
+    if (one_case(word)) return n > 1 && empty(argument[n], v)
+    if (word == "IsOkUnless") return n == 2 && argument[2] == "alloc_error"
+    if (word == "IsTrue") {
+      fact = n == 1 ? trimmed(argument[1]) : ""
+      return fact == "true" || (i = outside(fact, "==")) && trimmed(substr(fact, 1, i - 1)) == trimmed(substr(fact, i + 2))
+    }
+    first = argument[n - 1]
+    second = argument[n]
+    return n > 2 && empty(first, v) && empty(second, v)
+  }
+  if (i = outside(fact, "≡")) n = length("≡")
+  else if (i = outside(fact, "≤ℤ")) n = length("≤ℤ")
+  else if (i = outside(fact, "≤")) n = length("≤")
+  else return 0
   left = trimmed(substr(fact, 1, i - 1))
-  right = trimmed(substr(fact, i + length("≡")))
+  right = trimmed(substr(fact, i + n))
+  if (left == "0" && substr(fact, i, n) == "≤") return 1
   return left == right || bare(left, v) && mentions(right, escaped(left)) || bare(right, v) && mentions(left, escaped(right))
 }
 
 # one fact of a promise: what of the outcome it speaks of, and what it gives by an equation
-function take(fact, v,   i, side, part, given, said) {
+function take(fact,   i, side, part, name, given, said) {
   fact = trimmed(fact)
-  if (!outside(fact, "→") && (i = outside(fact, "×"))) { take(substr(fact, 1, i - 1), v); take(substr(fact, i + length("×")), v); return }
-  if (empty(fact, v)) return
-  if (i = outside(fact, "→") ? 0 : outside(fact, "≡")) {
+  if (fact !~ /^let / && !outside(fact, "→") && !outside(fact, "↔") && !outside(fact, "⊎") && (i = outside(fact, "×"))) {
+    take(substr(fact, 1, i - 1))
+    take(substr(fact, i + length("×")))
+    return
+  }
+  if (empty(fact, "result")) return
+  if (i = outside(fact, "→") || outside(fact, "↔") || outside(fact, "⊎") ? 0 : outside(fact, "≡")) {
     side = given = substr(fact, 1, i - 1)
-    gsub(/now \([a-z_]+ \.exit\)/, "", side)
-    gsub("(^|[^A-Za-z0-9_.])" v "([^A-Za-z0-9_]|$)", " ", side)
-    gsub(/record|[a-z_]+ =|[{};() ]/, "", side)
-    if (side != "" || mentions(substr(fact, i), v) || index(substr(fact, i), ".exit")) given = ""
+    for (part in outcome) if (part != "") { name = " " part "[.](new|exit) "; side = without(side, name) }
+    side = without(side, " result ")
+    gsub(/[a-z_][A-Za-z0-9_]* *=|[{};(),]/, " ", side)
+    side = without(side, " record ")
+    if (side !~ /^ *$/ || mentions(substr(fact, i), "result") || mentions_after(substr(fact, i))) given = ""
   }
   for (part in outcome) {
-    i = part == "" ? v : part " \\.exit"
-    if (mentions(fact, i)) { outcome[part] = outcome[part] "said "; said = 1 }
-    if (mentions(given, i)) outcome[part] = outcome[part] "given "
+    name = part == "" ? "result" : part "[.](new|exit)"
+    if (mentions(fact, name)) { outcome[part] = outcome[part] "said "; said = 1 }
+    if (mentions(given, name)) outcome[part] = outcome[part] "given "
   }
   facts += said
 }
 
+# a text without a word that stands between blanks or brackets
+function without(s, word) {
+  gsub(/[{};(),]/, " & ", s)
+  gsub(/ /, "  ", s)
+  s = " " s " "
+  gsub(word, " ", s)
+  return s
+}
+
 # what follows `pub`: a function's head is looked at, and the rest is handed back from its body on
-function public(s,   name, i, found, clause, v, wrong, given, part, promised) {
+function public(s,   name, i, found, clause, label, wrong, given, part, clauses, before, vain) {
   if (!match(s, /^[ \n]+((const|unsafe|extern|"")[ \n]+)*fn[ \n]+[A-Za-z_][A-Za-z0-9_]*/)) return s
   name = substr(s, 1, RLENGTH)
-  s = substr(s, RLENGTH + 1)
+  s = past_parameters(substr(s, RLENGTH + 1))
   sub(/.*[ \n]/, "", name)
   split("", outcome)
   i = index(s, "(")
   found = closes(s, i)
-  lent(substr(s, i, found - i + 1))
+  lent(substr(s, i + 1, found - i - 1))
   s = substr(s, found + 1)
   if (s ~ /^[ \n]*->/) outcome[""] = ""
   facts = 0
-  while (match(s, /(requires|ensures)[ \n]*\{|[[{;]/)) {
+  while (match(s, /[A-Za-z_][A-Za-z0-9_]*|[[({;]/)) {
     found = substr(s, RSTART, RLENGTH)
     if (found == "{" || found == ";") break
-    i = RSTART + RLENGTH - 1
+    if (found == "(" || found == "[") { s = substr(s, closes(s, RSTART) + 1); continue }
+    s = substr(s, RSTART + RLENGTH)
+    if (found !~ /^(ghost|requires|ensures)$/) continue
+    i = index(s, "{")
+    label = trimmed(substr(s, 1, i - 1))
     clause = substr(s, i + 1, closes(s, i) - i - 1)
     s = substr(s, closes(s, i) + 1)
-    if (found ~ /^requires/) wrong = wrong "has a requires; "
-    if (found !~ /^ensures/) continue
-    promised = 1
-    v = clause
-    sub(/^[^λ]*λ */, "", v)
-    sub(/[^A-Za-z0-9_].*/, "", v)
-    sub(/^[^⌜]*⌜/, "", clause)
-    sub(/⌝[^⌝]*$/, "", clause)
-    take(clause, v)
+    if (found == "requires") wrong = wrong "has a requires; "
+    if (found != "ensures") continue
+    clauses++
+    if (label ~ /^[*]/) wrong = wrong "has an ensures* , whose text is not read; "
+    gsub(/--[^\n]*/, "", clause)
+    before = facts
+    take(clause)
+    if (facts == before) vain = vain "its clause " label " promises what every outcome meets; "
   }
   given = 1
   for (part in outcome) {
     if (outcome[part] !~ /given/) given = 0
-    if (promised && facts && outcome[part] == "") wrong = wrong "says nothing of " (part == "" ? "what it hands back" : part " after the call") "; "
+    if (facts && outcome[part] == "") wrong = wrong "says nothing of " (part == "" ? "what it hands back" : part " after the call") "; "
   }
-  if (!promised) wrong = wrong "has no ensures; "
+  if (!clauses) wrong = wrong "has no ensures; "
   else if (!facts) wrong = wrong "promises what every outcome meets; "
+  else wrong = wrong vain
   sub(/; $/, "", wrong)
   print type[depth] name "|" given "|" wrong
   return s
 }
 
-# the names of what is lent to be written
-function lent(params,   name) {
-  while (match(params, /[a-z_]+: *&('[a-z]+ )?mut|&('[a-z]+ )?mut self/)) {
-    name = substr(params, RSTART, RLENGTH)
-    params = substr(params, RSTART + RLENGTH)
-    sub(/:.*/, "", name)
-    sub(/.* /, "", name)
-    outcome[name] = ""
+# the names of what is lent to be written: of each parameter in whose type a `&mut` stands
+function lent(params,   depth, found, at, rest) {
+  rest = params = params ","
+  while (match(rest, /->|[][(){}<>,]/)) {
+    found = substr(rest, RSTART, RLENGTH)
+    at += RSTART + RLENGTH - 1
+    rest = substr(rest, RSTART + RLENGTH)
+    if (found == "," && !depth) { lent_by(substr(params, 1, at - 1)); params = rest; at = 0 }
+    else if (found != "," && found != "->") depth += index("([{<", found) ? 1 : -1
   }
+}
+function lent_by(param,   name) {
+  if (param !~ /&[ \n]*('[A-Za-z_]+[ \n]+)?mut[^A-Za-z0-9_]/) return
+  name = param
+  if (name ~ /:/) sub(/[ \n]*:.*/, "", name)
+  gsub(/^[ \n]+|[ \n]+$/, "", name)
+  sub(/.*[^A-Za-z0-9_]/, "", name)
+  outcome[name] = ""
+}
+
+# what follows a `#[test]` or `#[cfg(test)]`: the rest behind the item
+function past_item(s,   found) {
+  while (match(s, /[A-Za-z_][A-Za-z0-9_]*|[[({;]/)) {
+    found = substr(s, RSTART, RLENGTH)
+    if (found == ";") return substr(s, RSTART + 1)
+    if (found == "{") return substr(s, closes(s, RSTART) + 1)
+    if (found == "(" || found == "[") s = substr(s, closes(s, RSTART) + 1)
+    else s = substr(s, RSTART + RLENGTH)
+    if (found ~ /^(ghost|requires|ensures)$/) s = substr(s, closes(s, index(s, "{")) + 1)
+  }
+  return s
+}
+
+# the type of an `impl`, by what follows that word
+function type_of(s) {
+  s = past_parameters(s)
+  s = substr(s, 1, index(s, "{") - 1)
+  sub(/[ \n]where[ \n].*/, "", s)
+  sub(/.*[ \n]for[ \n]/, "", s)
+  return match(s, /[A-Z][A-Za-z0-9_]*/) ? substr(s, RSTART, RLENGTH) "::" : ""
 }
 
 { text = text $0 "\n" }
 END {
   s = cleaned(text)
-  while (match(s, /[{}]|[A-Za-z_][A-Za-z0-9_]*/)) {
+  start = 1 # whether an item may begin here
+  while (match(s, /#!?\[|[{}]|[A-Za-z_][A-Za-z0-9_]*/)) {
     word = substr(s, RSTART, RLENGTH)
+    between = substr(s, 1, RSTART - 1)
+    if (between ~ /[^ \n]/) start = between ~ /;[ \n]*$/
+    if (word ~ /^#/) {
+      s = substr(s, RSTART + RLENGTH - 1)
+      word = substr(s, 2, closes(s, 1) - 2)
+      s = substr(s, closes(s, 1) + 1)
+      gsub(/[ \n]/, "", word)
+      if (word == "test" || word == "cfg(test)") s = past_item(s)
+      start = 1
+      continue
+    }
     s = substr(s, RSTART + RLENGTH)
     if (word == "{") { depth++; type[depth] = next_type == "" ? type[depth - 1] : next_type; next_type = "" }
     else if (word == "}") depth--
-    else if (word == "impl" && match(s, /[A-Z][A-Za-z0-9_]*/)) next_type = substr(s, RSTART, RLENGTH) "::"
+    else if (word == "impl" && start) next_type = type_of(s)
     else if (word == "pub") s = public(s)
+    start = word ~ /^([{}]|unsafe)$/
   }
 }
