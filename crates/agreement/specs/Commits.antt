@@ -18,7 +18,7 @@ use Rattle.replica.specs.Record.{Outcome, log_end}
 use Rattle.replica.specs.Step.{Call, step}
 use Rattle.agreement.specs.BySlot.{numbered}
 use Rattle.agreement.specs.Theorem.{Group, Mark, World, slot_of, rises, mark_at, marks_of, put, begin, May, Reach, begins, turn, accept_entry, commit_entry}
-use Rattle.agreement.specs.Group.{framed, inv, each, rises_commit, commit_rises, commit_earlier_in, accept_was_sent}
+use Rattle.agreement.specs.Group.{each, rises_commit, commit_rises, commit_earlier_in, accept_was_sent}
 
 -- an action that is an accept entry is one for its slot, ballot and batch
 pub any_entry : (a : Act) (p : Proposal) → a.what ≡ AcceptData p → a ≡ accept_entry p.slot p.ballot (record { id = p.batch; count = p.count; keys = a.keys })
@@ -49,22 +49,13 @@ pub record MarksAreCommits (r : Replica) (o : Outcome) : Type 0 where
   pub to : (s : ℕ) → rises (slot_of r s) (slot_of o.replica s) ≡ true → commit_entry s (slot_of o.replica s).ballot ∈ o.actions
   pub back : (s b : ℕ) → commit_entry s b ∈ o.actions → (rises (slot_of r s) (slot_of o.replica s) ≡ true) × (b ≡ (slot_of o.replica s).ballot)
 
-pub marks_are_commits : (g : Group) (w : World) → Reach g w → (m : ℕ) → g.present m ≡ true → (room : ℕ) (c : Call)
-    → MarksAreCommits (w.replica m) (step (w.replica m) room c)
-marks_are_commits g w r m p room c =
-    let o : Outcome = step (w.replica m) room c in
-    record {
-      to = rises_commit (w.replica m) c o.answer o.replica o.actions (framed g w r m p room c);
-      back = commit_rises (w.replica m) c o.answer o.replica o.actions (framed g w r m p room c);
-    }
-
 -- ── the order in a log ──
 -- where an element stands in two lists, one after the other
-data Split {A : Type 0} (h a b r : List A) (x : A) : Type 0 where
+pub data Split {A : Type 0} (h a b r : List A) (x : A) : Type 0 where
   first : (l : List A) → h ≡ b ++ (x ∷ l) → Split h a b r x
   second : (l : List A) → b ≡ h ++ l → a ≡ l ++ (x ∷ r) → Split h a b r x
 
-split : {A : Type 0} (h a b r : List A) (x : A) → h ++ a ≡ b ++ (x ∷ r) → Split h a b r x
+pub split : {A : Type 0} (h a b r : List A) (x : A) → h ++ a ≡ b ++ (x ∷ r) → Split h a b r x
 split [] a b r x e = second b refl e
 split (y ∷ h) a [] r x e = first h (cc)
 split {A} (y ∷ h) a (z ∷ b) r x e =
@@ -85,49 +76,10 @@ pub record Followed (w : World) (m s ballot : ℕ) (earlier : List Act) : Type 0
 abbrev pub CommitsFollow : World → Type 0
 CommitsFollow w = (m s ballot : ℕ) (earlier later : List Act) → w.did m ≡ earlier ++ (commit_entry s ballot ∷ later) → Followed w m s ballot earlier
 
-in_middle : {A : Type 0} (l r : List A) (x : A) → x ∈ (l ++ (x ∷ r))
+pub in_middle : {A : Type 0} (l r : List A) (x : A) → x ∈ (l ++ (x ∷ r))
 in_middle l r x = Memᴰ.append_right l (Memᴰ.head refl)
 
-module _ (g : Group) (w : World) (reach : Reach g w) (ih : CommitsFollow w) (m : ℕ) (p : g.present m ≡ true) (room : ℕ) (c : Call) (a : May w m room c) where
-  abbrev pub o : Outcome
-  o = step (w.replica m) room c
-
-  more_marks : {k : Mark} → k ∈ w.marks → k ∈ (put w m o).marks
-  unfolding put
-  more_marks x = Memᴰ.append_left (marks_of m (w.replica m) o.replica) x
-
-  new_mark : {k : Mark} → k ∈ marks_of m (w.replica m) o.replica → k ∈ (put w m o).marks
-  unfolding put
-  new_mark x = Memᴰ.append_right w.marks x
-
-  older : {j s b : ℕ} {earlier : List Act} → Followed w j s b earlier → Followed (put w m o) j s b earlier
-  older f = record { batch = f.batch; marked = more_marks f.marked; entry = f.entry }
-
-  own : (s b : ℕ) (earlier later : List Act) → Split (w.did m) o.actions earlier later (commit_entry s b) → Followed (put w m o) m s b earlier
-  own s b earlier later (first l e) = older (ih m s b earlier l e)
-  own s b earlier later (second l e u) =
-      let x : commit_entry s b ∈ o.actions = subst (λ (y : List Act). commit_entry s b ∈ y) (sym u) (in_middle l later (commit_entry s b)) in
-      let (t, q) = (marks_are_commits g w reach m p room c).back s b x in
-      record {
-        batch = (slot_of o.replica s).batch;
-        marked =
-            subst (λ (n : ℕ). record { who = m; slot = s; ballot = n; batch = (slot_of o.replica s).batch } ∈ (put w m o).marks) (sym q)
-            (new_mark (risen_marked m (w.replica m) o.replica s t));
-        entry = subst (λ (y : List Act). accept_entry s b (slot_of o.replica s).batch ∈ y) (sym e)
-            (Memᴰ.append_left l (commit_earlier_in g w (inv g w reach) m p c o (framed g w reach m p room c) (accept_was_sent w m room c a) s b x));
-      }
-
-  follow_step : CommitsFollow (put w m o)
-  follow_step j s b earlier later =
-      each w m o (λ j r h. h ≡ earlier ++ (commit_entry s b ∷ later) → Followed (put w m o) j s b earlier) j
-      (λ d e. older (ih j s b earlier later e))
-      (λ e. own s b earlier later (split (w.did m) o.actions earlier later (commit_entry s b) e))
-
-start_follow : (g : Group) → CommitsFollow (begin g)
+pub start_follow : (g : Group) → CommitsFollow (begin g)
 unfolding begin
 start_follow g m s b earlier later e =
     absurd (Memᴰ.not-nil (subst (λ (l : List Act). commit_entry s b ∈ l) (sym e) (in_middle earlier later (commit_entry s b))))
-
-pub commits_follow : (g : Group) (w : World) → Reach g w → CommitsFollow w
-commits_follow g w begins = start_follow g
-commits_follow g w (turn {w = u} r m p room c a) = follow_step g u r (commits_follow g u r) m p room c a

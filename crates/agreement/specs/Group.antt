@@ -253,14 +253,9 @@ Inv-start g =
     }
 
 -- a present member is good, so each of its calls keeps to the frame
-start_good : (g : Group) (m : ℕ) → g.present m ≡ true → GoodReplica ((begin g).replica m)
+pub start_good : (g : Group) (m : ℕ) → g.present m ≡ true → GoodReplica ((begin g).replica m)
 unfolding begin
 start_good g m p = (made_start m g.size g.start (g.options m) (g.made m p)).0
-
-pub good_in : (g : Group) (w : World) → Reach g w → (m : ℕ) → g.present m ≡ true → GoodReplica (w.replica m)
-good_in g w begins = start_good g
-good_in g w (turn {w = u} r m p room c a) = λ j.
-    each u m (step (u.replica m) room c) (λ j r h. g.present j ≡ true → GoodReplica r) j (λ _. good_in g u r j) (λ _. (step-Ok (u.replica m) room c (good_in g u r m p)).good)
 
 -- a present member was made
 pub made_fresh : (g : Group) (m : ℕ) → g.present m ≡ true → (begin g).replica m ≡ fresh m g.size g.start (g.options m)
@@ -270,23 +265,6 @@ made_fresh g m p =
     {a = record { answer = 0; replica = fresh m g.size g.start (g.options m) }}
     {b = record { answer = 10; replica = zero_replica }}
     (λ _ _. refl) (λ _ e. absurd (omega arith)) (g.made m p)
-
--- what each call keeps of a present member is what it was made with
-pub stays_in : {A : Type 0} (p : Replica → A) (g : Group)
-    → ((w : World) → Reach g w → (m : ℕ) → g.present m ≡ true → (room : ℕ) (c : Call) → p (step (w.replica m) room c).replica ≡ p (w.replica m))
-    → (w : World) → Reach g w → (m : ℕ) → g.present m ≡ true → p (w.replica m) ≡ p (fresh m g.size g.start (g.options m))
-stays_in p g k w begins = λ m l. ap p (made_fresh g m l)
-stays_in p g k w (turn {w = u} r m l room c a) = λ j.
-    each u m (step (u.replica m) room c) (λ j q h. g.present j ≡ true → p q ≡ p (fresh j g.size g.start (g.options j))) j
-    (λ _. stays_in p g k u r j) (λ z. k u r m l room c ∙ stays_in p g k u r m z)
-
-pub framed : (g : Group) (w : World) → Reach g w → (m : ℕ) → g.present m ≡ true → (room : ℕ) (c : Call)
-    → Frame (view_of (w.replica m)) c (step (w.replica m) room c).answer (view_of (step (w.replica m) room c).replica) (step (w.replica m) room c).actions
-framed g w r m p room c = (step-Ok (w.replica m) room c (good_in g w r m p)).frame
-
-pub inv : (g : Group) (w : World) → Reach g w → Inv g w
-inv g w begins = Inv-start g
-inv g w (turn {w = u} r m p room c a) = Inv-step g u (inv g u r) m p c (step (u.replica m) room c) (framed g u r m p room c) (accept_was_sent u m room c a)
 
 -- ── the theorem ──
 no_ballots : NeverFalls (ballots [])
@@ -308,6 +286,3 @@ Agreement-of {g} {w} i =
     falls : (m : ℕ) → (g.present m ≡ true) ⊎ (g.present m ≡ false) → NeverFalls (ballots (w.did m))
     falls m (inl p) = (i.local m p).order
     falls m (inr p) = subst (λ (h : List Act). NeverFalls (ballots h)) (sym (i.none m p)) no_ballots
-
-pub agreement : Theorem
-agreement g w r = Agreement-of (inv g w r)

@@ -14,9 +14,9 @@ use Rattle.agreement.specs.Theorem.{Group, Mark, World, slot_of, rises, mark_at,
 use Rattle.agreement.specs.Frame.{Owns}
 use Rattle.agreement.specs.Local.{commit_earlier, commit_top}
 use Rattle.agreement.specs.OfMessages.{owns-owns}
-use Rattle.agreement.specs.Group.{view_of, framed, inv, rises_commit}
+use Rattle.agreement.specs.Group.{view_of, rises_commit}
 use Rattle.agreement.specs.Commits.{mark_of}
-use Rattle.agreement.specs.Runs.{three, seven, mark, noticed_world, noticed_reached, notice_marks}
+use Rattle.agreement.specs.Runs.{three, seven, mark, noticed_world, notice_marks}
 
 -- the marks that a call at member m makes
 abbrev pub marks_by : World → ℕ → ℕ → Call → List Mark
@@ -58,55 +58,10 @@ mark_raised m r r' k x =
     subst (Raised m r r') (sym e) (record { rose = t; held = refl }))
     (λ _ z. absurd (Memᴰ.not-nil z)) y
 
-module _ (g : Group) (w : World) (reach : Reach g w) (m : ℕ) (p : g.present m ≡ true) (room : ℕ) (c : Call) (k : Mark) (x : k ∈ marks_by w m room c) where
-  abbrev pub o : Outcome
-  o = step (w.replica m) room c
-
-  raised : Raised m (w.replica m) o.replica k
-  raised = mark_raised m (w.replica m) o.replica k x
-
-  pub mark_committed : commit_entry k.slot k.ballot ∈ o.actions
-  mark_committed =
-      subst (λ (y : Mark). commit_entry k.slot y.ballot ∈ o.actions) (sym raised.held)
-      (rises_commit (w.replica m) c o.answer o.replica o.actions (framed g w reach m p room c) k.slot raised.rose)
-
-  entry_earlier : accept_entry k.slot k.ballot k.batch ∈ w.did m
-  entry_earlier =
-      subst (λ (y : Mark). accept_entry k.slot k.ballot y.batch ∈ w.did m) (sym raised.held)
-      (commit_earlier m (view_of (w.replica m)) (w.did m) (w.did m) c o.answer (view_of o.replica) o.actions ((inv g w reach).local m p) (framed g w reach m p room c) k.slot
-      k.ballot mark_committed)
-
-  at_largest : k.ballot ≡ o.replica.sc.bal_max_seen
-  at_largest =
-      commit_top m (view_of (w.replica m)) (w.did m) (w.did m) c o.answer (view_of o.replica) o.actions ((inv g w reach).local m p) (framed g w reach m p room c) k.slot
-      k.ballot mark_committed
-
-pub marked_earlier : MarkedEarlier
-marked_earlier g w reach m p room c k x = entry_earlier g w reach m p room c k x
-
-pub mark_at_largest : MarkAtLargest
-mark_at_largest g w reach m p room c k x = at_largest g w reach m p room c k x
-
 -- ── a notice ──
 -- one that writes a commit entry is at the largest ballot seen, and from its owner
-notice_at : (r : Replica) (room p b bar s said : ℕ) → commit_entry s said ∈ (step r room (call_commit_notice p b bar)).actions
+pub notice_at : (r : Replica) (room p b bar s said : ℕ) → commit_entry s said ∈ (step r room (call_commit_notice p b bar)).actions
     → ((step r room (call_commit_notice p b bar)).replica.sc.bal_max_seen ≡ b) × Owns p b
 notice_at r room p b bar s said =
     commit_notice_step_ways (λ (o : Outcome). commit_entry s said ∈ o.actions → (o.replica.sc.bal_max_seen ≡ b) × Owns p b) r room p b bar
     (λ a _ z. absurd (Memᴰ.not-nil z)) (λ f _. (sym f.seen, owns-owns b p f.owned))
-
-pub notice_learns : NoticeLearns
-notice_learns g w reach m q room p b bar k x =
-    let c : Call = call_commit_notice p b bar in
-    let (top, own) = notice_at (w.replica m) room p b bar k.slot k.ballot (mark_committed g w reach m q room c k x) in
-    let e : k.ballot ≡ b = mark_at_largest g w reach m q room c k x ∙ top in
-    let y : accept_entry k.slot b k.batch ∈ w.did m = subst (λ (n : ℕ). accept_entry k.slot n k.batch ∈ w.did m) e (marked_earlier g w reach m q room c k x) in
-    let (p', own', z) = (inv g w reach).from m k.slot b k.batch y in
-    let same : p' ≡ p = omega arith in
-    record { ballot = e; owned = own; accepted = subst (λ (n : ℕ). accept_entry k.slot b k.batch ∈ w.did n) same z }
-
--- that it is about something: member 2 learns slot 1 from the notice of member 1, in the run `changed`
-pub notice_learned : Learned noticed_world 1 514 (mark 2 1 514 seven)
-unfolding three
-notice_learned =
-    notice_learns three noticed_world noticed_reached 2 refl 3456 1 514 2 (mark 2 1 514 seven) (rw notice_marks.marks (Memᴰ.tail (Memᴰ.head refl)))

@@ -80,36 +80,9 @@ get_d_in {A} (x ∷ l) (suc k) d = go (get_d_in l k d)
     go (inl m) = inl (Memᴰ.tail m)
     go (inr e) = inr e
 
-module _ (g : Group) (w : World) (r : Reach g w) (m : ℕ) (p : g.present m ≡ true) where
-  deliver-Reach : (from : ℕ) (a : Act) → a ∈ w.did from → (l : List Call) → ((c : Call) → c ∈ l → c ∈ received from a) → Reach g (deliver w m l)
-  unfolding deliver
-  deliver-Reach from a h [] i = r
-  deliver-Reach from a h (c ∷ l) i = turn r m p 3456 c (message from a c h (i c (Memᴰ.head refl)))
-
-  nothing : Reach g (deliver w m [])
-  unfolding deliver
-  nothing = r
-
-  gets_reach : (from k : ℕ) → (thing w from k ∈ w.did from) ⊎ (thing w from k ≡ bare StatusUp) → Reach g (deliver w m (received from (thing w from k)))
-  gets_reach from k (inl h) = deliver-Reach from (thing w from k) h (received from (thing w from k)) (λ c i. i)
-  gets_reach from k (inr e) = rw e nothing
-
-happen-Reach : (g : Group) (w : World) → Reach g w → (t : Turn) → g.present (who t) ≡ true → Reach g (happen w t)
-unfolding happen
-happen-Reach g w r (times m source) p = turn r m p 3456 _ (timer source)
-happen-Reach g w r (offers m b) p = turn r m p 3456 _ (offer b)
-happen-Reach g w r (logs m e slot ballot size) p = turn r m p 3456 _ (logged _)
-happen-Reach g w r (gets m from k) p = gets_reach g w r m p from k (get_d_in (w.did from) k (bare StatusUp))
-
 unfoldable pub all_present : Group → List Turn → Bool
 all_present g [] = true
 all_present g (t ∷ l) = g.present (who t) && all_present g l
-
-pub play-Reach : (g : Group) (l : List Turn) (w : World) → Reach g w → all_present g l ≡ true → Reach g (play w l)
-unfolding play all_present
-play-Reach g [] w r e = r
-play-Reach g (t ∷ l) w r e =
-    play-Reach g l (happen w t) (happen-Reach g w r t (and_left (g.present (who t)) (all_present g l) e)) (and_right (g.present (who t)) (all_present g l) e)
 
 -- ── three members, all present, start 0, urgent commit notices ──
 pub three_made : (m : ℕ) → ltb m 3 ≡ true → (new_replica m 3 0 1).answer ≡ 0
@@ -149,14 +122,6 @@ changed_world = play (begin three) changed
 abbrev pub late_world : World
 late_world = play (begin three) late
 
-pub changed_reached : Reach three changed_world
-unfolding all_present three changed
-changed_reached = play-Reach three changed (begin three) begins refl
-
-pub late_reached : Reach three late_world
-unfolding all_present three late
-late_reached = play-Reach three late (begin three) begins refl
-
 -- an element that stands after the first k
 pub further : {A : Type 0} (k : ℕ) (l : List A) {x : A} → x ∈ drop k l → x ∈ l
 further zero l m = m
@@ -183,19 +148,6 @@ pub record TwoBatches (w : World) : Type 0 where
 pub two_batches : TwoBatches late_world
 unfolding play happen deliver late three begin put upd marks_of at_place numbered new_replica fit fit_scalars fit_slots fit_reads fit_slot filled noting settled prepare_on prepare_step last_used counted_on voted_on replied_on reply_on prepare_reply_step accept_step accept_reply_step first_open last_open lead_on step_up timeout_step mark_on mark_stop commit_notice_step prepared_done moved_accept accepted_done pass_on pass_stop committed_done logged_on logged_step open_read_step replied_step read_reply_step offer_step moved_exec executed_step decide_accept decide_accept_reply decide_vote decide_count decide_promised decide_accepted decide_offer not_above least_majority with_bar with_fallen has insert count count_in make_batch note_key note_keys new_keys place_in overfull_in merge find_read open_read close_read put_read reply_to scan counts
 two_batches = record { marks = refl; entry = further 9 (late_world.did 1) (Memᴰ.head refl); entry' = further 11 (late_world.did 2) (Memᴰ.head refl) }
-
--- so the theorem's last two parts are false where "at one ballot" is left out
-pub marks_need_ballots : ((w : World) → Reach three w → (k k' : Mark) → k ∈ w.marks → k' ∈ w.marks → k.slot ≡ k'.slot → k.batch ≡ k'.batch) → ⊥
-marks_need_ballots h =
-    let e : empty_batch ≡ seven = h late_world late_reached (mark 1 1 514 empty_batch) (mark 2 1 771 seven) (rw two_batches.marks (Memᴰ.head refl))
-    (rw two_batches.marks (Memᴰ.tail (Memᴰ.head refl))) refl in
-    omega (arith, ap (λ (b : Batch). b.id) e)
-
-pub entries_need_ballots : ((w : World) → Reach three w → (m m' s ballot ballot' : ℕ) (b b' : Batch) → accept_entry s ballot b ∈ w.did m
-    → accept_entry s ballot' b' ∈ w.did m' → b ≡ b') → ⊥
-entries_need_ballots h =
-    let e : empty_batch ≡ seven = h late_world late_reached 1 2 1 514 771 empty_batch seven two_batches.entry two_batches.entry' in
-    omega (arith, ap (λ (b : Batch). b.id) e)
 
 -- ── what the conditions are for ──
 abbrev pub eight : Batch
@@ -252,10 +204,6 @@ twice = take 18 late ++ (gets 0 1 10 ∷ logs 0 AcceptData 1 514 160 ∷ [])
 abbrev pub twice_world : World
 twice_world = play (begin three) twice
 
-pub twice_reached : Reach three twice_world
-unfolding all_present three late twice
-twice_reached = play-Reach three twice (begin three) begins refl
-
 pub record TwiceEntries (w : World) : Type 0 where
   pub marks : w.marks ≡ mark 1 1 514 empty_batch ∷ []
   pub seven_0 : accept_entry 1 257 seven ∈ w.did 0
@@ -277,10 +225,6 @@ twice_entries =
 -- ── a notice that marks, for Learning: in `changed`, member 2 gets that of member 1 ──
 abbrev pub noticed_world : World
 noticed_world = play (begin three) (take 22 changed)
-
-pub noticed_reached : Reach three noticed_world
-unfolding all_present three changed
-noticed_reached = play-Reach three (take 22 changed) (begin three) begins refl
 
 pub record NoticeMarks (w : World) : Type 0 where
   pub may : May w 2 3456 (call_commit_notice 1 514 2)

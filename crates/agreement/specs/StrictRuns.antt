@@ -26,7 +26,7 @@ use Rattle.replica.specs.Quorumread.{open_read_step, replied_step, read_reply_st
 use Rattle.replica.specs.Added.{offer_step, moved_exec, executed_step}
 use Rattle.agreement.specs.BySlot.{numbered}
 use Rattle.agreement.specs.Theorem.{Group, World, marks_of, upd, put, begin, Reach, begins, accept_entry}
-use Rattle.agreement.specs.Runs.{play, happen, deliver, all_present, play-Reach, seven, changed, late, further, ThreeMarked}
+use Rattle.agreement.specs.Runs.{play, happen, deliver, all_present, seven, changed, late, further, ThreeMarked}
 
 -- ── three strict members, all present, start 0, urgent commit notices ──
 pub strict_made : (m : ℕ) → ltb m 3 ≡ true → (new_replica m 3 0 5).answer ≡ 0
@@ -40,10 +40,6 @@ strict_three = record { size = 3; start = 0; options = λ m. 5; present = λ m. 
 abbrev pub strict_world : World
 strict_world = play (begin strict_three) changed
 
-pub strict_reached : Reach strict_three strict_world
-unfolding all_present strict_three changed
-strict_reached = play-Reach strict_three changed (begin strict_three) begins refl
-
 pub strict_marked : ThreeMarked strict_world
 unfolding play happen deliver changed strict_three begin put upd marks_of at_place numbered new_replica fit fit_scalars fit_slots fit_reads fit_slot filled noting settled prepare_on prepare_step last_used counted_on voted_on replied_on reply_on prepare_reply_step accept_step accept_reply_step first_open last_open lead_on step_up timeout_step mark_on mark_stop commit_notice_step prepared_done moved_accept accepted_done pass_on pass_stop committed_done logged_on logged_step open_read_step replied_step read_reply_step offer_step moved_exec executed_step decide_accept decide_accept_reply decide_vote decide_count decide_promised decide_accepted decide_offer not_above least_majority with_bar with_fallen has insert count count_in make_batch note_key note_keys new_keys place_in overfull_in merge find_read open_read close_read put_read reply_to scan counts lacking
 strict_marked =
@@ -53,10 +49,6 @@ strict_marked =
 -- one proposes it at 514; and the late completion at 257 says nothing, so that nothing is marked by it
 abbrev pub strict_late : World
 strict_late = play (begin strict_three) late
-
-pub strict_late_reached : Reach strict_three strict_late
-unfolding all_present strict_three late
-strict_late_reached = play-Reach strict_three late (begin strict_three) begins refl
 
 abbrev pub own_vote_told : Act
 own_vote_told =

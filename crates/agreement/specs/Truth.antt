@@ -39,7 +39,7 @@ use Rattle.agreement.specs.Theorem.{Group, World, slot_of, marks_of, upd, put, b
 use Rattle.agreement.specs.Runs.{Turn, times, offers, logs, gets, who, does, deliver, thing, happen, play, all_present, get_d_in, further, three, changed, late}
 use Rattle.agreement.specs.Acks.{Truthful}
 use Rattle.agreement.specs.Worlds.{IsAccepted}
-use Rattle.agreement.specs.ChosenIf.{proposal_at, commit_chosen}
+use Rattle.agreement.specs.ChosenIf.{proposal_at}
 
 -- ── the condition as a test ──
 abbrev pub fair_one : Replica → Action → Bool
@@ -61,7 +61,7 @@ unfoldable pub fair : Replica → List Act → Bool
 fair r [] = true
 fair r (y ∷ l) = fair_one r y.what && fair r l
 
-fair_facts : (r : Replica) (l : List Act) → fair r l ≡ true → (y : Act) (x : Accepted) → y ∈ l → y.what ≡ AcceptReply x → (slot_of r x.slot).status ≡ 2
+pub fair_facts : (r : Replica) (l : List Act) → fair r l ≡ true → (y : Act) (x : Accepted) → y ∈ l → y.what ≡ AcceptReply x → (slot_of r x.slot).status ≡ 2
 unfolding fair
 fair_facts r [] f y x m e = elim m [ ]
 fair_facts r (z ∷ l) f y x (Memᴰ.head q) e =
@@ -89,39 +89,6 @@ fair_run w (t ∷ l) = fair_turn w t && fair_run (happen w t) l
 abbrev pub TrueReach : Group → World → Type 0
 TrueReach g w = (r : Reach g w) × Truthful r
 
-module _ (g : Group) (w : World) (r : TrueReach g w) (m : ℕ) (p : g.present m ≡ true) where
-  one_turn : (c : Call) → May w m 3456 c → fair_call w m c ≡ true → TrueReach g (does w m c)
-  one_turn c a f = (turn r.0 m p 3456 c a, (r.1, λ y x i e. fair_facts (w.replica m) (step (w.replica m) 3456 c).actions f y x i e))
-
-  calls_true : (from : ℕ) (a : Act) → a ∈ w.did from → (l : List Call) → ((c : Call) → c ∈ l → c ∈ received from a) → fair_calls w m l ≡ true → TrueReach g (deliver w m l)
-  unfolding deliver fair_calls
-  calls_true from a h [] i f = r
-  calls_true from a h (c ∷ l) i f = one_turn c (message from a c h (i c (Memᴰ.head refl))) f
-
-  no_calls : TrueReach g (deliver w m [])
-  unfolding deliver
-  no_calls = r
-
-  gets_true : (from k : ℕ) → fair_calls w m (received from (thing w from k)) ≡ true → (thing w from k ∈ w.did from) ⊎ (thing w from k ≡ bare StatusUp)
-      → TrueReach g (deliver w m (received from (thing w from k)))
-  gets_true from k f (inl h) = calls_true from (thing w from k) h (received from (thing w from k)) (λ c i. i) f
-  gets_true from k f (inr e) = subst (λ (a : Act). TrueReach g (deliver w m (received from a))) (sym e) no_calls
-
-happen-true : (g : Group) (w : World) → TrueReach g w → (t : Turn) → g.present (who t) ≡ true → fair_turn w t ≡ true → TrueReach g (happen w t)
-unfolding happen fair_turn
-happen-true g w r (times m source) p f = one_turn g w r m p _ (timer source) f
-happen-true g w r (offers m b) p f = one_turn g w r m p _ (offer b) f
-happen-true g w r (logs m e slot ballot size) p f = one_turn g w r m p _ (logged _) f
-happen-true g w r (gets m from k) p f = gets_true g w r m p from k f (get_d_in (w.did from) k (bare StatusUp))
-
-pub play-true : (g : Group) (l : List Turn) (w : World) → TrueReach g w → all_present g l ≡ true → fair_run w l ≡ true → TrueReach g (play w l)
-unfolding play all_present fair_run
-play-true g [] w r e f = r
-play-true g (t ∷ l) w r e f =
-    play-true g l (happen w t)
-    (happen-true g w r t (and_left (g.present (who t)) (all_present g l) e) (and_left (fair_turn w t) (fair_run (happen w t) l) f))
-    (and_right (g.present (who t)) (all_present g l) e) (and_right (fair_turn w t) (fair_run (happen w t) l) f)
-
 -- ── the two runs ──
 pub changed_fair : fair_run (begin three) changed ≡ true
 unfolding fair_run fair_turn fair_calls fair play happen deliver changed three begin put upd marks_of at_place numbered new_replica fit fit_scalars fit_slots fit_reads fit_slot filled noting settled prepare_on prepare_step last_used counted_on voted_on replied_on reply_on prepare_reply_step accept_step accept_reply_step first_open last_open lead_on step_up timeout_step mark_on mark_stop commit_notice_step prepared_done moved_accept accepted_done pass_on pass_stop committed_done logged_on logged_step open_read_step replied_step read_reply_step offer_step moved_exec executed_step decide_accept decide_accept_reply decide_vote decide_count decide_promised decide_accepted decide_offer not_above least_majority with_bar with_fallen has insert count count_in make_batch note_key note_keys new_keys place_in overfull_in merge find_read open_read close_read put_read reply_to scan counts
@@ -139,16 +106,13 @@ until_commit = take 20 changed
 abbrev pub commit_world : World
 commit_world = play (begin three) until_commit
 
-until_present : all_present three until_commit ≡ true
+pub until_present : all_present three until_commit ≡ true
 unfolding all_present three until_commit changed
 until_present = refl
 
-until_fair : fair_run (begin three) until_commit ≡ true
+pub until_fair : fair_run (begin three) until_commit ≡ true
 unfolding fair_run fair_turn fair_calls fair until_commit play happen deliver changed three begin put upd marks_of at_place numbered new_replica fit fit_scalars fit_slots fit_reads fit_slot filled noting settled prepare_on prepare_step last_used counted_on voted_on replied_on reply_on prepare_reply_step accept_step accept_reply_step first_open last_open lead_on step_up timeout_step mark_on mark_stop commit_notice_step prepared_done moved_accept accepted_done pass_on pass_stop committed_done logged_on logged_step open_read_step replied_step read_reply_step offer_step moved_exec executed_step decide_accept decide_accept_reply decide_vote decide_count decide_promised decide_accepted decide_offer not_above least_majority with_bar with_fallen has insert count count_in make_batch note_key note_keys new_keys place_in overfull_in merge find_read open_read close_read put_read reply_to scan counts
 until_fair = refl
-
-pub until_true : TrueReach three commit_world
-until_true = play-true three until_commit (begin three) (begins, tt) until_present until_fair
 
 abbrev pub last_reply : Act
 last_reply = bare (AcceptReply (record { member = 1; slot = 1; ballot = 514 }))
@@ -161,10 +125,6 @@ pub commit_met : commit_of 1 514 ∈ (step (commit_world.replica 1) 3456 (call_a
 unfolding until_commit play happen deliver changed three begin put upd marks_of at_place numbered new_replica fit fit_scalars fit_slots fit_reads fit_slot filled noting settled prepare_on prepare_step last_used counted_on voted_on replied_on reply_on prepare_reply_step accept_step accept_reply_step first_open last_open lead_on step_up timeout_step mark_on mark_stop commit_notice_step prepared_done moved_accept accepted_done pass_on pass_stop committed_done logged_on logged_step open_read_step replied_step read_reply_step offer_step moved_exec executed_step decide_accept decide_accept_reply decide_vote decide_count decide_promised decide_accepted decide_offer not_above least_majority with_bar with_fallen has insert count count_in make_batch note_key note_keys new_keys place_in overfull_in merge find_read open_read close_read put_read reply_to scan counts
 commit_met = Memᴰ.head refl
 
-one_present : three.present 1 ≡ true
+pub one_present : three.present 1 ≡ true
 unfolding three
 one_present = refl
-
-pub changed_chosen : Chosen three.size (IsAccepted commit_world 1) (proposal_at commit_world 1 1)
-changed_chosen =
-    commit_chosen three commit_world until_true.0 until_true.1 1 one_present 1 514 3456 2 514 (message 2 last_reply _ reply_was_sent (Memᴰ.head refl)) commit_met

@@ -13,7 +13,7 @@ use Rattle.tally.specs.declared.Best.TheVariants.{Nothing, Slot as SlotAlone}
 use Rattle.tally.specs.declared.Tally.{Tally}
 use Rattle.tally.specs.Merge.{no_best, merge}
 use Rattle.tally.specs.Open.{find_read, open_read, close_read, put_read, reply_to, fit_reads}
-use Rattle.tally.specs.AnyOrder.{answered_agreeing}
+use Rattle.tally.proofs.AnyOrder.{answered_agreeing}
 use Rattle.actions.specs.Actions.{flat}
 use Rattle.slots.specs.Slots.{fit_slot}
 use Rattle.decide.specs.Scalars.{quorum, fit_scalars}
@@ -24,10 +24,9 @@ use Rattle.replica.specs.Fit.{fit}
 use Rattle.replica.specs.Quorumread.{open_read_step, replied_step, read_reply_step}
 use Rattle.replica.specs.Step.{Call, call_prepare, call_open_read, call_read_reply, step}
 use Rattle.replica.specs.Cases.{open_reads, look, Run, run, right_runs, right_run, right_turn, asked, told, fresh, held, answers, of_one, with_value}
-use Rattle.laws.specs.OpenReads.{Waiting-new, Waiting-stays}
+use Rattle.laws.specs.OpenReads.{Waiting-new}
 use Rattle.laws.specs.AnyOrder.{read_of, ReadOpen, AgreeingReplies, acknowledged_with, member_reply, replied, replied_acts, replied_answers, SameEnd, Aside, CallsBetween, no_more, aside, from_member}
-use Rattle.laws.specs.InARow.{replies_within, in_any_order}
-use Rattle.laws.specs.BetweenReplies.{same_read, same_answers}
+use Rattle.laws.specs.InARow.{replies_within}
 use Rattle.laws.specs.Theorems.{new_sized, sizes_stay}
 
 -- member 2 of a group of five opens read 5, for four keys
@@ -145,16 +144,6 @@ each_merges : All (λ (m : ℕ). All (Merges (three_say m)) first_order) first_o
 unfolding merge scan
 each_merges = ((refl, (refl, (refl, tt))), ((refl, (refl, (refl, tt))), ((refl, (refl, (refl, tt))), tt)))
 
-pub met_open : ReadOpen 5 asked_four
-unfolding new_replica fit fit_scalars fit_slots fit_reads open_read_step find_read open_read scan first_open
-met_open =
-    record {
-      fits = refl;
-      sized = sizes_stay (new_replica 2 5 0 0).replica 3456 four_keys (new_sized 2 5 0 0);
-      waiting = Waiting-stays (new_replica 2 5 0 0).replica 3456 four_keys (new_sized 2 5 0 0) (Waiting-new 2 5 0 0);
-      known = le_refl 1;
-    }
-
 pub met_hears : AgreeingReplies 5 three_say asked_four first_order
 unfolding new_replica fit fit_scalars fit_slots fit_reads open_read_step find_read open_read scan first_open
 met_hears =
@@ -170,7 +159,7 @@ pub met_quorum : acknowledged_with 5 asked_four first_order ≤ quorum asked_fou
 unfolding new_replica fit fit_scalars fit_slots fit_reads open_read_step find_read open_read scan has insert count count_in first_open
 met_quorum = le_refl 3
 
-same_members : SameMembers first_order another
+pub same_members : SameMembers first_order another
 same_members =
     record {
       there = λ m o.
@@ -181,9 +170,6 @@ same_members =
           let last : 3 ∈ first_order = Memᴰ.tail (Memᴰ.tail (Memᴰ.head refl)) in
           All-in (λ (x : ℕ). x ∈ first_order) {l = another} (last, (one, (last, (one, (Memᴰ.head refl, tt))))) o;
     }
-
-pub met_same : SameEnd 3456 5 three_say asked_four first_order another
-met_same = in_any_order 3456 5 three_say asked_four first_order another (le_refl 3456) met_open met_hears met_quorum same_members
 
 -- with other calls between them: a Prepare after the first; another read opened before, and the replies the other way round, one of them twice
 abbrev pub two : List ℕ
@@ -204,30 +190,17 @@ Aside-prepare peer leader reply e = let z : ◌≡◌ {A = ℕ} 0 1 = cc in omeg
 Aside-open : Aside 5 (call_open_read 6 1 (replicate 8 0))
 Aside-open peer leader reply e = let z : ◌≡◌ {A = ℕ} 0 1 = cc in omega arith
 
-met_prepare : CallsBetween 5 three_say asked_four two with_prepare
+pub met_prepare : CallsBetween 5 three_say asked_four two with_prepare
 met_prepare = from_member 3456 0 (le_refl 3456) (aside 3456 (call_prepare 0 2 257) Aside-prepare (from_member 3456 1 (le_refl 3456) no_more))
 
-met_read : CallsBetween 5 three_say asked_four turned with_read
+pub met_read : CallsBetween 5 three_say asked_four turned with_read
 met_read =
     aside 3456 (call_open_read 6 1 (replicate 8 0)) Aside-open
     (from_member 3456 1 (le_refl 3456) (from_member 3456 0 (le_refl 3456) (from_member 3456 1 (le_refl 3456) no_more)))
 
-met_below : acknowledged_with 5 asked_four two < quorum asked_four.sc
+pub met_below : acknowledged_with 5 asked_four two < quorum asked_four.sc
 unfolding new_replica fit fit_scalars fit_slots fit_reads open_read_step find_read open_read scan has insert count count_in first_open
 met_below = le_refl 3
-
-pub met_same_read : read_of with_prepare 5 ≡ read_of with_read 5
-met_same_read =
-    same_read 5 three_say asked_four with_prepare with_read two turned met_open
-    (replies_within 5 three_say asked_four first_order two met_hears
-    (λ m o. All-in (λ (x : ℕ). x ∈ first_order) {l = two} (Memᴰ.head refl, (Memᴰ.tail (Memᴰ.head refl), tt)) o)) met_below
-    (record {
-      there = λ m o. All-in (λ (x : ℕ). x ∈ turned) {l = two} (Memᴰ.tail (Memᴰ.head refl), (Memᴰ.head refl, tt)) o;
-      back = λ m o.
-          let one : 1 ∈ two = Memᴰ.tail (Memᴰ.head refl) in
-          All-in (λ (x : ℕ). x ∈ two) {l = turned} (one, (Memᴰ.head refl, (one, tt))) o;
-    })
-    met_prepare met_read
 
 -- the reply that makes the quorum, the last of one order and of another
 abbrev pub with_other : Replica
@@ -236,23 +209,9 @@ with_other = replied 3456 5 three_say (step asked_four 3456 (call_open_read 6 1 
 abbrev pub backwards : List ℕ
 backwards = 3 ∷ 1 ∷ []
 
-met_other : CallsBetween 5 three_say asked_four two with_other
+pub met_other : CallsBetween 5 three_say asked_four two with_other
 met_other =
     aside 3456 (call_open_read 6 1 (replicate 8 0)) Aside-open (from_member 3456 0 (le_refl 3456) (from_member 3456 1 (le_refl 3456) no_more))
 
-met_backwards : CallsBetween 5 three_say asked_four backwards (replied 3456 5 three_say asked_four backwards)
+pub met_backwards : CallsBetween 5 three_say asked_four backwards (replied 3456 5 three_say asked_four backwards)
 met_backwards = from_member 3456 3 (le_refl 3456) (from_member 3456 1 (le_refl 3456) no_more)
-
-pub met_same_answers : (step with_other 3456 (member_reply 5 three_say 3)).actions ≡ (step (replied 3456 5 three_say asked_four backwards) 3456 (member_reply 5 three_say 0)).actions
-unfolding new_replica fit fit_scalars fit_slots fit_reads open_read_step replied_step read_reply_step find_read open_read put_read reply_to merge scan has insert count count_in first_open
-met_same_answers =
-    same_answers 5 three_say asked_four with_other (replied 3456 5 three_say asked_four backwards) two backwards 3456 3 0 met_open met_hears met_below (le_refl 3) (le_refl 3)
-    (record {
-      there = λ m o.
-          All-in (λ (x : ℕ). x ∈ (3 ∷ 1 ∷ 0 ∷ [])) {l = first_order}
-          (Memᴰ.tail (Memᴰ.tail (Memᴰ.head refl)), (Memᴰ.tail (Memᴰ.head refl), (Memᴰ.head refl, tt))) o;
-      back = λ m o.
-          All-in (λ (x : ℕ). x ∈ first_order) {l = 3 ∷ 1 ∷ 0 ∷ []}
-          (Memᴰ.tail (Memᴰ.tail (Memᴰ.head refl)), (Memᴰ.tail (Memᴰ.head refl), (Memᴰ.head refl, tt))) o;
-    })
-    met_other met_backwards (le_refl 3456) refl

@@ -30,8 +30,6 @@ use Rattle.laws.specs.WaysLeadership.{lead_window, lead_from, lead_trigger, lead
 use Rattle.laws.specs.WaysDurability.{Completes, completes_silent, completes_more, completes_commit, completes_report, logged, pass_from, moved_ways, logged_step_ways}
 use Rattle.laws.specs.WaysAdded.{offer_window, offer_step_ways, executed_step_ways, open_read_step_ways, read_reply_step_ways}
 use Rattle.laws.specs.Room.{step-unready}
-use Rattle.laws.specs.Summaries.{summary_zero, summary_kept}
-use Rattle.laws.specs.Theorems.{start_stays}
 
 -- the two calls in which it may fall, in the base kind; a strict replica keeps what is committed, 02, Wish 6, (d)
 abbrev pub may_fall : Bool → Call → Bool
@@ -77,7 +75,7 @@ kept_closed : (strict : Bool) (x : Slot) (status : ℕ) → strict ≡ true → 
 kept_closed strict x status e h = rw (e, le-leb 3 x.status h) h
 
 module _ (r : Replica) (n : ℕ) where
-  abbrev Raised : Outcome → Type 0
+  abbrev pub Raised : Outcome → Type 0
   Raised o = Rises r.window o.replica.window
 
   kept_raised : Keeps Raised r
@@ -107,7 +105,7 @@ module _ (r : Replica) (n : ℕ) where
   unfolding moved_exec
   executed_raised slot = Rises-put r.window (place r.sc slot) _ (λ h. executed_closed (slot_at r.window (place r.sc slot)) h)
 
-  other_raised : (c : Call) → may_fall (strict r.sc) c ≡ false → Raised (does r n c)
+  pub other_raised : (c : Call) → may_fall (strict r.sc) c ≡ false → Raised (does r n c)
   other_raised (call_prepare peer trigger ballot) e =
       prepare_step_ways Raised r n peer trigger ballot kept_raised
       (λ f.
@@ -154,38 +152,3 @@ module _ (r : Replica) (n : ℕ) where
   other_raised (call_read_reply peer id from_leader reply) e =
       read_reply_step_ways Raised r n peer id from_leader reply kept_raised (λ f. Rises-self r.window) (λ f k. Rises-self r.window) (λ f. Rises-self r.window)
       (λ f k. Rises-self r.window) (λ f k. Rises-self r.window)
-
--- THE THEOREM: of any record, a call that is neither a Prepare nor an Accept leaves it no smaller, and in the strict kind no call makes it fall
-pub falls_only : (r : Replica) (n : ℕ) (c : Call) → may_fall (strict r.sc) c ≡ false → r.summary.first ≤ (step r n c).replica.summary.first
-falls_only r n c e = go (decide (ready r n)) (same? (step r n c).answer 0)
-  where
-    go : (ready r n ≡ true) ⊎ (ready r n ≡ false) → ((step r n c).answer ≡ 0) ⊎ ((step r n c).answer ≡ 0 → ⊥)
-        → r.summary.first ≤ (step r n c).replica.summary.first
-    go (inl t) (inl z) =
-        omega (
-          arith,
-          (ready_facts r n t).sum.first,
-          ap (λ (x : Summary). x.first) (summary_zero r n c z),
-          first_rises r.window (step r n c).replica.window (other_raised r n c e),
-          start_stays r n c,
-        )
-    go (inl t) (inr z) = omega (arith, ap (λ (x : Summary). x.first) (summary_kept r n c z).2)
-    go (inr t) w = omega (arith, ap (λ (o : Outcome). o.replica.summary.first) (step-unready r n c t))
-
--- 02, Wish 6, (d), of each slot: what is Committed or Executed at a strict replica stays so, whatever is called
-pub committed_stays : (r : Replica) (n : ℕ) (c : Call) (i : ℕ) → strict r.sc ≡ true → i < r.window.len → 3 ≤ (slot_at r.window i).status
-    → 3 ≤ (slot_at (step r n c).replica.window i).status
-committed_stays r n c i k l h = (other_raised r n c (rw k (none c))).closed i l h
-  where
-    none : (c : Call) → may_fall true c ≡ false
-    none (call_prepare peer trigger ballot) = refl
-    none (call_prepare_reply peer m) = refl
-    none (call_accept peer slot ballot b) = refl
-    none (call_accept_reply peer slot ballot) = refl
-    none (call_commit_notice peer ballot bar) = refl
-    none (call_timeout source) = refl
-    none (call_logged d) = refl
-    none (call_offer b) = refl
-    none (call_executed slot) = refl
-    none (call_open_read id count keys) = refl
-    none (call_read_reply peer id from_leader reply) = refl

@@ -45,7 +45,6 @@ use Rattle.replica.specs.Durability.{prepared_done, moved_accept, then_moved, ac
 use Rattle.replica.specs.Quorumread.{open_read_step, replied_step, read_reply_step}
 use Rattle.replica.specs.Added.{offer_step, moved_exec, executed_step}
 use Rattle.replica.specs.Step.{Call, call_prepare, call_prepare_reply, call_accept, call_accept_reply, call_commit_notice, call_timeout, call_logged, call_offer, call_executed, call_open_read, call_read_reply, does, step}
-use Rattle.laws.specs.Theorems.{options_stay}
 use Rattle.laws.specs.Kinds.{with_options, optioned, options_of, of_kind, found, kindless_entry, kindless, KindsAgree}
 
 -- ── lists and slots ──
@@ -83,7 +82,7 @@ not_both false b e = refl
 
 -- ── a replica with other options ──
 module _ (n : ℕ) where
-  abbrev optioned_outcome : Outcome → Outcome
+  abbrev pub optioned_outcome : Outcome → Outcome
   optioned_outcome o = record { answer = o.answer; replica = optioned n o.replica; actions = o.actions }
 
   abbrev optioned_decided : Decided → Decided
@@ -91,8 +90,8 @@ module _ (n : ℕ) where
       record { answer = d.answer; noted = d.noted; sc = with_options n d.sc; slot = d.slot; says = d.says; keys = d.keys }
 
 -- the first has those options, and is the second otherwise
-record One (n : ℕ) (x a : Outcome) : Type 0 where
-  same : x ≡ optioned_outcome n a
+pub record One (n : ℕ) (x a : Outcome) : Type 0 where
+  pub same : x ≡ optioned_outcome n a
 
 record OneDecided (n : ℕ) (x a : Decided) : Type 0 where
   same : x ≡ optioned_decided n a
@@ -352,7 +351,7 @@ module _ (n : ℕ) where
             (keep (λ (s : Slot). (eqb s.ballot e.ballot && eqb s.vote.ballot e.ballot) ≡ true) (λ o. t) t)
         done CommitSlot t = committed_agrees logged e.slot u
 
-    calls_agree : (room : ℕ) (c : Call) → kindless r c ≡ true → One n (does (optioned n r) room c) (does r room c)
+    pub calls_agree : (room : ℕ) (c : Call) → kindless r c ≡ true → One n (does (optioned n r) room c) (does r room c)
     calls_agree room (call_prepare peer trigger ballot) k = prepare_agrees r room peer trigger ballot k
     calls_agree room (call_prepare_reply peer m) k = prepare_reply_agrees r room peer m (not-true _ k)
     calls_agree room (call_accept peer slot ballot b) k = accept_step_agrees r room peer slot ballot b (not-true _ k)
@@ -366,18 +365,13 @@ module _ (n : ℕ) where
     calls_agree room (call_read_reply peer id from_leader reply) k = read_reply_agrees r room peer id from_leader reply
 
 -- the kind's bit leaves the other two
-kind_urgent : (kind : Bool) (sc : Scalars) → urgent (with_options (options_of kind sc.options) sc) ≡ urgent sc
+pub kind_urgent : (kind : Bool) (sc : Scalars) → urgent (with_options (options_of kind sc.options) sc) ≡ urgent sc
 kind_urgent true sc = let e : (sc.options % 4 + 4) % 2 ≡ sc.options % 2 = omega arith in rw e
 kind_urgent false sc = let e : (sc.options % 4 + 0) % 2 ≡ sc.options % 2 = omega arith in rw e
 
-kind_disallowed : (kind : Bool) (sc : Scalars) → disallowed (with_options (options_of kind sc.options) sc) ≡ disallowed sc
+pub kind_disallowed : (kind : Bool) (sc : Scalars) → disallowed (with_options (options_of kind sc.options) sc) ≡ disallowed sc
 kind_disallowed true sc = let e : (sc.options % 4 + 4) / 2 % 2 ≡ sc.options / 2 % 2 = omega arith in rw e
 kind_disallowed false sc = let e : (sc.options % 4 + 0) / 2 % 2 ≡ sc.options / 2 % 2 = omega arith in rw e
-
-pub kinds_agree : KindsAgree
-kinds_agree kind r room c k =
-    ap summed (calls_agree (options_of kind r.sc.options) r (kind_urgent kind r.sc) (kind_disallowed kind r.sc) room c k).same
-    ∙ ap (λ (options : ℕ). optioned_outcome (options_of kind options) (step r room c)) (sym (options_stay r room c))
 
 -- ── an offer that is taken: by (b) the vote is set in one kind alone, which no answer and no action shows ──
 pub record Said (x a : Outcome) : Type 0 where

@@ -12,7 +12,7 @@ use Rattle.tally.specs.declared.Reads.{Reads}
 use Rattle.tally.specs.declared.Opened.{Opened}
 use Rattle.tally.specs.declared.Replied.{Replied}
 use Rattle.tally.specs.Open.{no_read, new_read, put_read, reply_to, stays_open}
-use Rattle.tally.specs.Laws.{reply_id, reply_open}
+use Rattle.tally.proofs.Laws.{reply_id, reply_open}
 use Rattle.tally.specs.ReadLaws.{Distinct, added, open_cases, open_distinct, close_distinct, close_each, put_count, put_distinct}
 use Rattle.decide.specs.declared.Reply.{Reply}
 use Rattle.decide.specs.Scalars.{is_member, quorum, may_be}
@@ -35,7 +35,6 @@ use Rattle.laws.specs.WaysAdded.{offer_step_ways, executed_step_ways, read_place
 use Rattle.laws.specs.Counts.{Completes-leaves}
 use Rattle.laws.specs.Conflict.{put_each}
 use Rattle.laws.specs.Good.{Sized}
-use Rattle.laws.specs.Theorems.{group_stays}
 
 -- the two calls of reads
 abbrev pub of_reads : Call → Bool
@@ -118,18 +117,6 @@ Waiting-new id group start options =
     pick_both (λ (m : Made). Waiting m.replica) (may_be id group start options) (record { ids = λ i j h. absurd (omega arith); waits = λ i h. absurd (omega arith) })
     (record { ids = λ i j h. absurd (omega arith); waits = λ i h. absurd (omega arith) })
 
--- a call that leaves the table leaves it so
-others_waiting : (r : Replica) (n : ℕ) (c : Call) → of_reads c ≡ false → Waiting r → Waiting (step r n c).replica
-others_waiting r n c e w =
-    let group : quorum r.sc ≡ quorum (step r n c).replica.sc = ap quorum_of (sym (group_stays r n c)) in
-    let reads : r.reads ≡ (step r n c).replica.reads = sym (other_calls r n c e) in
-    record {
-      ids = subst Distinct reads w.ids;
-      waits =
-          subst (λ (q : ℕ). (i : ℕ) → i < (step r n c).replica.reads.count → count_in (read_at (step r n c).replica i).acks < q) group
-          (subst (λ (rs : Reads). (i : ℕ) → i < rs.count → count_in (get_or rs.reads i no_read).acks < quorum r.sc) reads w.waits);
-    }
-
 module _ (r : Replica) (n : ℕ) (sized : Sized r) (w : Waiting r) where
   -- what is said of the reads in use, of a table that may take the place of this one
   abbrev Wait : Reads → Type 0
@@ -144,7 +131,7 @@ module _ (r : Replica) (n : ℕ) (sized : Sized r) (w : Waiting r) where
       rw (get_or-set_other r.reads.reads r.reads.count i (new_read id count keys) no_read e) (w.waits i (omega (arith, e))))
       (same? i r.reads.count)
 
-  open_waiting : (id count : ℕ) (keys : List ℕ) → Waiting (open_read_step r n id count keys).replica
+  pub open_waiting : (id count : ℕ) (keys : List ℕ) → Waiting (open_read_step r n id count keys).replica
   unfolding open_read_step
   open_waiting id count keys =
       pick_both (λ (o : Outcome). Waiting o.replica) (not (ready r n)) w
@@ -178,7 +165,7 @@ module _ (r : Replica) (n : ℕ) (sized : Sized r) (w : Waiting r) where
         })
         (λ t. pick_both (λ (o : Outcome). Waiting o.replica) (stays_open told.answer) (put_waiting t) w)
 
-  reply_waiting : (peer id : ℕ) (leader : Bool) (reply : Tally) → Waiting (read_reply_step r n peer id leader reply).replica
+  pub reply_waiting : (peer id : ℕ) (leader : Bool) (reply : Tally) → Waiting (read_reply_step r n peer id leader reply).replica
   unfolding read_reply_step
   reply_waiting peer id leader reply =
       let P : Outcome → Type 0 = λ o. Waiting o.replica in
@@ -187,11 +174,5 @@ module _ (r : Replica) (n : ℕ) (sized : Sized r) (w : Waiting r) where
       (pick_both P (ltb 8 reply.count) w
       (pick_cases P (leb r.reads.count (read_place r id)) (λ t. w) (λ t. replied_waiting peer leader reply (read_place r id) (leb-false _ _ t)))))
 
-Waiting-summed : (o : Outcome) → Waiting o.replica → Waiting (summed o).replica
+pub Waiting-summed : (o : Outcome) → Waiting o.replica → Waiting (summed o).replica
 Waiting-summed o w = record { ids = w.ids; waits = w.waits }
-
-pub Waiting-stays : (r : Replica) (n : ℕ) (c : Call) → Sized r → Waiting r → Waiting (step r n c).replica
-Waiting-stays r n c s w =
-    Call-cases (λ (x : Call). Waiting (step r n x).replica) (λ x e. others_waiting r n x e w)
-    (λ id count keys. Waiting-summed (open_read_step r n id count keys) (open_waiting r n s w id count keys))
-    (λ peer id leader reply. Waiting-summed (read_reply_step r n peer id leader reply) (reply_waiting r n s w peer id leader reply)) c

@@ -68,7 +68,7 @@ module _ (C : Outcome → Type 0) where
     Sound-done f s l =
         record { answers = refl; silent = λ n. absurd (n refl); same = λ n m. absurd (n refl); conflict = λ e. absurd (omega arith); few = f; fixed = s; long = l }
 
-  prepare_sound : (r : Replica) (n peer trigger ballot : ℕ) → Sound C r (prepare_step r n peer trigger ballot)
+  pub prepare_sound : (r : Replica) (n peer trigger ballot : ℕ) → Sound C r (prepare_step r n peer trigger ballot)
   prepare_sound r n peer trigger ballot =
       prepare_step_ways (Sound C r) r n peer trigger ballot (Sound-kept r)
       (λ f. Sound-done r _ _ (prepared_few r peer trigger ballot f) (followed-Fixed r.sc peer ballot)
@@ -76,7 +76,7 @@ module _ (C : Outcome → Type 0) where
       ∙ filled_long null_slot r.window (place r.sc trigger + 1)))
 
   -- ── Accept, AcceptReply ──
-  accept_sound : (r : Replica) (n peer slot ballot : ℕ) (b : Batch) → Sound C r (accept_step r n peer slot ballot b)
+  pub accept_sound : (r : Replica) (n peer slot ballot : ℕ) (b : Batch) → Sound C r (accept_step r n peer slot ballot b)
   accept_sound r n peer slot ballot b =
       accept_step_ways (Sound C r) r n peer slot ballot b (λ a h. Sound-answer r a (fifteen a h))
       (λ f. Sound-done r _ _ (omega (arith, says_few (accept_decided r peer slot ballot b).says (accept_decided r peer slot ballot b).keys)) (followed-Fixed r.sc peer ballot)
@@ -97,24 +97,24 @@ module _ (C : Outcome → Type 0) where
               let z = and_right (ltb slot (r.sc.start + 64)) _ (and_right (leb r.sc.bal_max_seen ballot) _ (and_right (leb r.sc.start slot) _ y)) in
               either (keeping r a) (and_make x (and_left (strict r.sc) _ z))
 
-  accept_reply_sound : (r : Replica) (n peer slot ballot : ℕ) → Sound C r (accept_reply_step r n peer slot ballot)
+  pub accept_reply_sound : (r : Replica) (n peer slot ballot : ℕ) → Sound C r (accept_reply_step r n peer slot ballot)
   accept_reply_sound r n peer slot ballot =
       accept_reply_step_ways (Sound C r) r n peer slot ballot (Sound-kept r)
       (λ f q. Sound-done r _ _ (omega arith) (Fixed-same r.sc) (put_long r.window (place r.sc slot) _))
       (λ f q. Sound-done r _ _ (omega arith) (Fixed-same r.sc) (put_long r.window (place r.sc slot) _))
 
-  prepare_reply_sound : (r : Replica) (n peer : ℕ) (m : Reply) → Sound C r (prepare_reply_step r n peer m)
+  pub prepare_reply_sound : (r : Replica) (n peer : ℕ) (m : Reply) → Sound C r (prepare_reply_step r n peer m)
   prepare_reply_sound r n peer m =
       prepare_reply_step_ways (Sound C r) r n peer m (λ a h z. Sound-kept r a h)
       (λ f. reply_on_leaves (Sound C r) r peer (clean_reply m) (fit_facts r f.fits).numbers.window (λ a h. Sound-kept r a (keeping_low r a h)) (λ after acts. Sound-done r after acts))
 
-  timeout_sound : (r : Replica) (n source : ℕ) → Sound C r (timeout_step r n source)
+  pub timeout_sound : (r : Replica) (n source : ℕ) → Sound C r (timeout_step r n source)
   timeout_sound r n source =
       timeout_step_ways (Sound C r) r n source (Sound-kept r)
       (λ ballot f. Sound-done r _ _ (led_few r source ballot (bare StatusUp) (bare Heartbeat) _ f) (record { id = refl; group = refl; start = refl; options = refl })
       (sweep_long (λ i s. redone_slot ballot (new_book (lead_trigger r) (lead_end r)) s) (lead_from r) (lead_window r).len (lead_window r) ∙ filled_long null_slot r.window (first_open r.window + 1)))
 
-  commit_notice_sound : (r : Replica) (n peer ballot bar : ℕ) → Sound C r (commit_notice_step r n peer ballot bar)
+  pub commit_notice_sound : (r : Replica) (n peer ballot bar : ℕ) → Sound C r (commit_notice_step r n peer ballot bar)
   commit_notice_sound r n peer ballot bar =
       commit_notice_step_ways (Sound C r) r n peer ballot bar (Sound-kept r)
       (λ f. Sound-done r _ _
@@ -126,7 +126,7 @@ module _ (C : Outcome → Type 0) where
       (Fixed-same r.sc)
       (sweep_long (λ i s. marked_slot s) (mark_from r) (mark_end r ballot bar) (mark_window r bar) ∙ filled_long null_slot r.window (place r.sc bar)))
 
-  logged_sound : (r : Replica) (n : ℕ) (d : Done) → Sound C r (logged_step r n d)
+  pub logged_sound : (r : Replica) (n : ℕ) (d : Done) → Sound C r (logged_step r n d)
   logged_sound r n d =
       let r' : Replica = logged r d in
       let numbers : Logs r d → FitNumbers r'.sc r'.window.len = λ f. logged_numbers r d (fit_facts r f.fits).numbers in
@@ -145,20 +145,20 @@ module _ (C : Outcome → Type 0) where
       (sweep_long (λ i s. passed_slot s) (pass_from r') (pass_stop r') r'.window))
 
   -- ── the added calls ──
-  offer_sound : (r : Replica) (n : ℕ) (b : Batch) → Sound C r (offer_step r n b)
+  pub offer_sound : (r : Replica) (n : ℕ) (b : Batch) → Sound C r (offer_step r n b)
   unfolding decide_offer
   offer_sound r n b =
       offer_step_ways (Sound C r) r n b (Sound-kept r)
       (λ f. Sound-done r _ _ (omega arith) (Fixed-same r.sc) (put_long (offer_window r) r.window.len _ ∙ filled_long null_slot r.window (r.window.len + 1)))
 
-  executed_sound : (r : Replica) (n slot : ℕ) → Sound C r (executed_step r n slot)
+  pub executed_sound : (r : Replica) (n slot : ℕ) → Sound C r (executed_step r n slot)
   unfolding moved_exec
   executed_sound r n slot =
       executed_step_ways (Sound C r) r n slot (Sound-kept r)
       (λ f. Sound-done r _ _ (omega arith) (record { id = refl; group = refl; start = refl; options = refl }) (put_long r.window (place r.sc slot) _))
 
   -- ── reads ──
-  open_read_sound : (r : Replica) (n id count : ℕ) (keys : List ℕ) → Sound C r (open_read_step r n id count keys)
+  pub open_read_sound : (r : Replica) (n id count : ℕ) (keys : List ℕ) → Sound C r (open_read_step r n id count keys)
   open_read_sound r n id count keys =
       open_read_step_ways (Sound C r) r n id count keys (Sound-kept r) (λ f. Sound-done r _ _ (omega arith) (Fixed-same r.sc) refl)
 
@@ -169,7 +169,7 @@ module _ (C : Outcome → Type 0) where
   Sound-stayed : (r : Replica) (i : ℕ) (d : Read) → Sound C r (stayed 0 r i d)
   Sound-stayed r i d = Sound-done r _ _ (omega arith) (Fixed-same r.sc) refl
 
-read_reply_sound : (r : Replica) (n peer id : ℕ) (from_leader : Bool) (reply : Tally)
+pub read_reply_sound : (r : Replica) (n peer id : ℕ) (from_leader : Bool) (reply : Tally)
     → Sound (λ (o : Outcome). TallyOnly r id o.replica) r (read_reply_step r n peer id from_leader reply)
 read_reply_sound r n peer id from_leader reply =
     let C : Outcome → Type 0 = λ o. TallyOnly r id o.replica in
@@ -191,27 +191,13 @@ read_reply_sound r n peer id from_leader reply =
       long = refl;
     })
 
--- every call, the summary aside
-does-Sound : (r : Replica) (n : ℕ) (c : Call) → Sound (Conflicts r c) r (does r n c)
-does-Sound r n (call_prepare peer trigger ballot) = prepare_sound _ r n peer trigger ballot
-does-Sound r n (call_prepare_reply peer m) = prepare_reply_sound _ r n peer m
-does-Sound r n (call_accept peer slot ballot b) = accept_sound _ r n peer slot ballot b
-does-Sound r n (call_accept_reply peer slot ballot) = accept_reply_sound _ r n peer slot ballot
-does-Sound r n (call_commit_notice peer ballot bar) = commit_notice_sound _ r n peer ballot bar
-does-Sound r n (call_timeout source) = timeout_sound _ r n source
-does-Sound r n (call_logged d) = logged_sound _ r n d
-does-Sound r n (call_offer b) = offer_sound _ r n b
-does-Sound r n (call_executed slot) = executed_sound _ r n slot
-does-Sound r n (call_open_read id count keys) = open_read_sound _ r n id count keys
-does-Sound r n (call_read_reply peer id from_leader reply) = read_reply_sound r n peer id from_leader reply
-
 -- the summary changes in a call that is answered 0 alone
 pub summed_same : (o : Outcome) → (o.answer ≡ 0 → ⊥) → summed o ≡ o
 summed_same o n =
     let q : pick (eqb o.answer 0) (walk o.replica.sc o.replica.window) o.replica.summary ≡ o.replica.summary = rw (ne_eqb o.answer 0 n) in
     λ k. record { answer = o.answer; replica = with_summary o.replica (q k); actions = o.actions }
 
-Sound-summed : (C : Outcome → Type 0) (r : Replica) (o : Outcome) → Sound C r o → Sound C r (summed o)
+pub Sound-summed : (C : Outcome → Type 0) (r : Replica) (o : Outcome) → Sound C r o → Sound C r (summed o)
 Sound-summed C r o s =
     record {
       answers = s.answers;
@@ -222,7 +208,3 @@ Sound-summed C r o s =
       fixed = s.fixed;
       long = s.long;
     }
-
--- every call
-pub step-Sound : (r : Replica) (n : ℕ) (c : Call) → Sound (Conflicts r c) r (step r n c)
-step-Sound r n c = Sound-summed (Conflicts r c) r (does r n c) (does-Sound r n c)

@@ -17,7 +17,7 @@ use Rattle.replica.specs.ActingLaws.{Summed}
 use Rattle.replica.specs.Step.{Call, call_prepare, call_prepare_reply, call_accept, call_accept_reply, call_commit_notice, call_timeout, call_logged, call_offer, call_executed, call_open_read, call_read_reply, does, step}
 use Rattle.laws.specs.Conflict.{Conflicts}
 use Rattle.laws.specs.Room.{step-unready}
-use Rattle.laws.specs.Theorems.{refusals_keep, conflict, fit_stays}
+use Rattle.laws.specs.Theorems.{fit_stays}
 
 -- ── the test as a fact ──
 pub sums-Summed : (r : Replica) → sums r ≡ true → Summed r
@@ -33,7 +33,7 @@ usable-fit r e = and_left (fit r) (sums r) e
 
 -- ── after every call ──
 -- 12 leaves the numbers, the slots and the summary
-conflict_frame : (r : Replica) (c : Call) (o : Outcome) → Conflicts r c o
+pub conflict_frame : (r : Replica) (c : Call) (o : Outcome) → Conflicts r c o
     → (o.replica.sc ≡ r.sc) × (o.replica.window ≡ r.window) × (o.replica.summary ≡ r.summary)
 conflict_frame r (call_read_reply peer id from_leader reply) o t = (t.sc, t.window, t.summary)
 conflict_frame r (call_prepare peer trigger ballot) o t = absurd t
@@ -46,52 +46,6 @@ conflict_frame r (call_logged d) o t = absurd t
 conflict_frame r (call_offer b) o t = absurd t
 conflict_frame r (call_executed slot) o t = absurd t
 conflict_frame r (call_open_read id count keys) o t = absurd t
-
-module _ (r : Replica) (n : ℕ) (c : Call) where
-  abbrev after : Replica
-  after = (step r n c).replica
-
-  -- answered 0 it is the walk's, whatever it was
-  pub summary_zero : (step r n c).answer ≡ 0 → after.summary ≡ walk after.sc after.window
-  summary_zero e = rw (eq-eqb (does r n c).answer 0 e)
-
-  -- answered otherwise it is what it was, and so are the numbers and the slots
-  pub summary_kept : ((step r n c).answer ≡ 0 → ⊥) → (after.sc ≡ r.sc) × (after.window ≡ r.window) × (after.summary ≡ r.summary)
-  summary_kept z = go (same? (step r n c).answer 12)
-    where
-      go : ((step r n c).answer ≡ 12) ⊎ ((step r n c).answer ≡ 12 → ⊥) → (after.sc ≡ r.sc) × (after.window ≡ r.window) × (after.summary ≡ r.summary)
-      go (inl e) = conflict_frame r c (step r n c) (conflict r n c e)
-      go (inr t) =
-          let e = refusals_keep r n c z t in
-          (ap (λ (x : Replica). x.sc) e, ap (λ (x : Replica). x.window) e, ap (λ (x : Replica). x.summary) e)
-
-  -- a record whose summary is the walk's keeps it so
-  pub Summed-stays : Summed r → Summed after
-  Summed-stays s = go (same? (step r n c).answer 0)
-    where
-      go : ((step r n c).answer ≡ 0) ⊎ ((step r n c).answer ≡ 0 → ⊥) → Summed after
-      go (inl e) = walk-Sums (summary_zero e)
-      go (inr z) =
-          let k = summary_kept z in
-          let a = sym k.0 in
-          let b = sym k.1 in
-          walk-Sums (k.2 ∙ Sums-walk s ∙ (λ i. walk (a i) (b i)))
-
-  -- THE SUMMARY: answered neither 1 nor 14, it is the walk's
-  pub summary_walks : ((step r n c).answer ≡ 1 → ⊥) → ((step r n c).answer ≡ 14 → ⊥) → after.summary ≡ walk after.sc after.window
-  summary_walks one fourteen = go (decide (ready r n))
-    where
-      shut : (t : Bool) → pick {A = ℕ} t 14 1 ≡ (step r n c).answer → ⊥
-      shut true e = fourteen (sym e)
-      shut false e = one (sym e)
-
-      go : (ready r n ≡ true) ⊎ (ready r n ≡ false) → after.summary ≡ walk after.sc after.window
-      go (inl e) = Sums-walk (Summed-stays (ready_facts r n e).sum)
-      go (inr e) = absurd (shut (roomy n && fit r) (sym (ap (λ (o : Outcome). o.answer) (step-unready r n c e))))
-
-  pub usable_stays : usable r ≡ true → usable after ≡ true
-  usable_stays e =
-      and_make (fit_stays r n c (and_left (fit r) (sums r) e)) (Summed-sums after (Summed-stays (sums-Summed r (and_right (fit r) (sums r) e))))
 
 -- commit_bar passes committed slots alone: none of them is Accepting, so that the count does not change by it
 pub passes_committed : (r : Replica) (j : ℕ) → place r.sc r.sc.commit_bar ≤ j → j < pass_stop r → 3 ≤ (slot_at r.window j).status

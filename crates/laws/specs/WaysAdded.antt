@@ -18,7 +18,7 @@ use Rattle.tally.specs.declared.Opened.{Opened}
 use Rattle.tally.specs.declared.Replied.{Replied}
 use Rattle.tally.specs.Merge.{conflict_at, merge_up_to}
 use Rattle.tally.specs.Open.{new_read, no_read, find_read, is_open, open_read, close_read, put_read, with_tally, with_ack, smaller, acknowledged, reply_to}
-use Rattle.tally.specs.Laws.{merge_cases}
+use Rattle.tally.proofs.Laws.{merge_cases}
 use Rattle.actions.specs.Actions.{says_acts}
 use Rattle.slots.specs.Slots.{executed_slot}
 use Rattle.decide.specs.declared.Decided.{Decided}

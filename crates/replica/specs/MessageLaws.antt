@@ -60,43 +60,12 @@ module _ (sc : Scalars) (ballot : ℕ) (room : List ℕ) where
 -- ── Prepare ──
 
 -- where the sender may send
-abbrev prepare_from : Replica → ℕ → ℕ → ℕ → Outcome
+abbrev pub prepare_from : Replica → ℕ → ℕ → ℕ → Outcome
 prepare_from r peer trigger ballot =
     pick (ltb trigger r.sc.start) (kept 0 r)
     (pick (ltb ballot r.sc.bal_max_seen) (kept 0 r)
     (pick (leb (r.sc.start + 64) trigger) (kept 5 r)
     (prepare_on r (grown r.window (place r.sc trigger + 1)) (place r.sc trigger) peer ballot)))
-
-module _ (r : Replica) (n peer trigger ballot first : ℕ) (e : first ≡ from_owner r n peer ballot) where
-  pub prepare_shut : (first ≡ 0 → ⊥) → prepare_step r n peer trigger ballot ≡ kept first r
-  unfolding prepare_step
-  prepare_shut h =
-      gate_shut (from_owner r n peer ballot) first r (prepare_from r peer trigger ballot) (gate_owner r n peer ballot (prepare_from r peer trigger ballot)) e h
-
-  module _ (z : first ≡ 0) where
-    prepare_open : prepare_step r n peer trigger ballot ≡ prepare_from r peer trigger ballot
-    unfolding prepare_step
-    prepare_open =
-        gate_open (from_owner r n peer ballot) first r (prepare_from r peer trigger ballot) (gate_owner r n peer ballot (prepare_from r peer trigger ballot)) e z
-
-    pub prepare_below : trigger < r.sc.start → prepare_step r n peer trigger ballot ≡ kept 0 r
-    prepare_below h = prepare_open ∙ rw (lt-ltb trigger r.sc.start h)
-
-    module _ (f : r.sc.start ≤ trigger) where
-      pub prepare_old : ballot < r.sc.bal_max_seen → prepare_step r n peer trigger ballot ≡ kept 0 r
-      prepare_old h = prepare_open ∙ rw (le-ltb trigger r.sc.start f, lt-ltb ballot r.sc.bal_max_seen h)
-
-      module _ (g : r.sc.bal_max_seen ≤ ballot) where
-        pub prepare_past : r.sc.start + 64 ≤ trigger → prepare_step r n peer trigger ballot ≡ kept 5 r
-        prepare_past h =
-            prepare_open
-            ∙ rw (le-ltb trigger r.sc.start f, le-ltb ballot r.sc.bal_max_seen g, le-leb (r.sc.start + 64) trigger h)
-
-        pub prepare_goes : (w : Window) → trigger < r.sc.start + 64 → w ≡ filled_in null_slot r.window (place r.sc trigger + 1)
-            → prepare_step r n peer trigger ballot ≡ prepare_on r w (place r.sc trigger) peer ballot
-        prepare_goes w h q =
-            prepare_open
-            ∙ rw (le-ltb trigger r.sc.start f, le-ltb ballot r.sc.bal_max_seen g, lt-leb (r.sc.start + 64) trigger h, q, filled_in_lem null_slot r.window (place r.sc trigger + 1) (omega arith))
 
 -- the window as the code has it, grown to the trigger's place
 pub grown_fits : {v : Window} (w : Window) (n : ℕ) → v ≡ filled_in null_slot w n → w.len ≤ 64 → n ≤ 64 → v.len ≤ 64

@@ -13,7 +13,7 @@ use Rattle.tally.specs.declared.Opened.{Opened}
 use Rattle.tally.specs.declared.Replied.{Replied}
 use Rattle.tally.specs.Merge.{best_at, answer_of}
 use Rattle.tally.specs.Open.{no_read, find_read, open_read, close_read, put_read, reply_to, fit_reads, stays_open}
-use Rattle.tally.specs.Laws.{reply_few}
+use Rattle.tally.proofs.Laws.{reply_few}
 use Rattle.tally.specs.ReadLaws.{read_fits}
 use Rattle.actions.specs.declared.Action.TheVariants.{ReadAnswer as answered}
 use Rattle.actions.specs.Actions.{Act, bare, write_at, put_act}

@@ -15,7 +15,8 @@ use Rattle.replica.specs.Record.{new_replica, fresh, zero_replica}
 use Rattle.replica.specs.Fit.{fit}
 use Rattle.replica.specs.Step.{Call, step}
 use Rattle.laws.specs.OfFit.{fit_facts, fresh_fits}
-use Rattle.laws.specs.Theorems.{fit_stays, kind_stays}
+use Rattle.laws.specs.Theorems.{fit_stays}
+use Rattle.laws.proofs.Theorems.{kind_stays}
 use Rattle.voting.specs.Reached.{Good-step, good_new}
 use Rattle.agreement.specs.BySlot.{numbered, numbered_place, by_place}
 use Rattle.agreement.specs.Good.{GoodReplica}

@@ -24,7 +24,7 @@ use Rattle.replica.specs.Added.{moved_exec}
 use Rattle.replica.specs.Step.{Call, call_prepare, call_prepare_reply, call_accept, call_accept_reply, call_commit_notice, call_timeout, call_logged, call_offer, call_executed, call_open_read, call_read_reply, does, step}
 use Rattle.laws.specs.OfFit.{FitNumbers, fit_facts}
 use Rattle.laws.specs.OfScalars.{fallen_ways}
-use Rattle.laws.specs.Theorems.{start_stays}
+use Rattle.laws.proofs.Theorems.{start_stays}
 use Rattle.laws.specs.Appended.{appended_low}
 use Rattle.laws.specs.WaysMessages.{prepare_step_ways, accept_step_ways, accept_reply_step_ways}
 use Rattle.laws.specs.WaysReply.{tabled_sc, reply_on_ways, prepare_reply_step_ways}

@@ -28,17 +28,8 @@ use Rattle.agreement.specs.BySlot.{numbered}
 use Rattle.agreement.specs.Theorem.{Group, World, marks_of, upd, put, begin}
 use Rattle.agreement.specs.Runs.{play, happen, deliver, three, late, late_world, seven, mark, two_batches}
 use Rattle.safety.specs.ForGood.{Comes, starts, ForGood}
-use Rattle.safety.specs.HonestRuns.{stands, is_real, honest, play-Comes}
+use Rattle.safety.specs.HonestRuns.{stands, is_real, honest}
 
 pub late-honest : honest three (begin three) late ≡ true
 unfolding honest is_real stands play happen deliver late three begin put upd marks_of at_place numbered new_replica fit fit_scalars fit_slots fit_reads fit_slot filled noting settled prepare_on prepare_step last_used counted_on voted_on replied_on reply_on prepare_reply_step accept_step accept_reply_step first_open last_open lead_on step_up timeout_step mark_on mark_stop commit_notice_step prepared_done moved_accept accepted_done pass_on pass_stop committed_done logged_on logged_step open_read_step replied_step read_reply_step offer_step moved_exec executed_step decide_accept decide_accept_reply decide_vote decide_count decide_promised decide_accepted decide_offer not_above least_majority with_bar with_fallen has insert count count_in make_batch note_key note_keys new_keys place_in overfull_in merge find_read open_read close_read put_read reply_to scan counts same_batch lacking
 late-honest = refl
-
-pub late_comes : Comes three late_world
-late_comes = play-Comes three late (begin three) starts late-honest
-
-pub base_breaks : ((g : Group) (w : World) → Comes g w → ForGood g w) → ⊥
-base_breaks h =
-    let e : empty_batch ≡ seven =
-    (h three late_world late_comes).one_batch (mark 1 1 514 empty_batch) (mark 2 1 771 seven) (rw two_batches.marks (Memᴰ.head refl)) (rw two_batches.marks (Memᴰ.tail (Memᴰ.head refl))) refl in
-    omega (arith, ap (λ (b : Batch). b.id) e)

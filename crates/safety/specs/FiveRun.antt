@@ -33,7 +33,7 @@ use Rattle.agreement.specs.Theorem.{Group, World, slot_of, marks_of, upd, put, b
 use Rattle.agreement.specs.Written.{line, lines}
 use Rattle.agreement.specs.Runs.{Turn, times, offers, logs, gets, play, happen, deliver, seven, mark, further}
 use Rattle.safety.specs.ForGood.{Comes, starts}
-use Rattle.safety.specs.HonestRuns.{stands, is_real, honest, play-Comes}
+use Rattle.safety.specs.HonestRuns.{stands, is_real, honest}
 
 -- ── five strict members, all present, start 0 ──
 pub five_made : (m : ℕ) → ltb m 5 ≡ true → (new_replica m 5 0 4).answer ≡ 0
@@ -107,9 +107,6 @@ five_world = play (begin five) story
 pub five-honest : honest five (begin five) story ≡ true
 unfolding play happen deliver first second third story five begin put upd marks_of at_place numbered new_replica fit fit_scalars fit_slots fit_reads fit_slot filled noting settled prepare_on prepare_step last_used counted_on voted_on replied_on reply_on prepare_reply_step accept_step accept_reply_step first_open last_open lead_on step_up timeout_step prepared_done moved_accept accepted_done pass_on pass_stop committed_done logged_on logged_step offer_step decide_accept decide_accept_reply decide_vote decide_count decide_promised decide_accepted decide_offer not_above least_majority with_bar with_fallen has insert count count_in make_batch same_batch note_key note_keys new_keys place_in overfull_in scan counts lacking honest is_real stands
 five-honest = refl
-
-pub five-Comes : Comes five five_world
-five-Comes = play-Comes five story (begin five) starts five-honest
 
 -- slot 1 is marked with batch 7 at both ballots, at the older one last
 pub five_marks : five_world.marks ≡ mark 1 1 514 seven ∷ mark 1 0 514 empty_batch ∷ mark 0 1 257 seven ∷ []

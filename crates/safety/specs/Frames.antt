@@ -2,7 +2,7 @@
 use Rattle.std.specs.Prelude.{ℕ}
 use Rattle.replica.specs.declared.Replica.{Replica}
 use Rattle.replica.specs.Step.{Call, step}
-use Rattle.laws.specs.Theorems.{group_stays}
+use Rattle.laws.proofs.Theorems.{group_stays}
 use Rattle.agreement.specs.Calls.{step-Ok}
 use Rattle.safety.specs.Sight.{sight_of, Strict, Able}
 use Rattle.safety.specs.Able.{Able-step, Fine-of}

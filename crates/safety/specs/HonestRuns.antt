@@ -125,17 +125,9 @@ module _ (g : Group) (w : World) (r : Comes g w) (m : ℕ) (p : g.present m ≡ 
   gets_comes from k t (inl h) = deliver-Comes from (thing w from k) h (received from (thing w from k)) t (λ c i. i)
   gets_comes from k t (inr e) = absurd (clash t (ap (λ (a : Act). arrives (received from a)) e))
 
-happen-Comes : (g : Group) (w : World) → Comes g w → (t : Turn) → g.present (who t) ≡ true → is_real w t ≡ true → Comes g (happen w t)
+pub happen-Comes : (g : Group) (w : World) → Comes g w → (t : Turn) → g.present (who t) ≡ true → is_real w t ≡ true → Comes g (happen w t)
 unfolding happen is_real
 happen-Comes g w r (times m source) p t = Comes-on g w r m p _ (timer_fires source)
 happen-Comes g w r (offers m b) p t = Comes-on g w r m p _ (batch_comes b)
 happen-Comes g w r (logs m e slot ballot size) p t = Comes-on g w r m p _ (entry_done (completion e slot ballot size) (stands_in e slot ballot (w.did m) t))
 happen-Comes g w r (gets m from k) p t = gets_comes g w r m p from k t (get_d_in (w.did from) k (bare StatusUp))
-
--- the whole run
-pub play-Comes : (g : Group) (l : List Turn) (w : World) → Comes g w → honest g w l ≡ true → Comes g (play w l)
-unfolding play honest
-play-Comes g [] w r h = r
-play-Comes g (t ∷ l) w r h =
-    let k : g.present (who t) && is_real w t ≡ true = and_left (g.present (who t) && is_real w t) _ h in
-    play-Comes g l (happen w t) (happen-Comes g w r t (and_left (g.present (who t)) _ k) (and_right (g.present (who t)) _ k)) (and_right (g.present (who t) && is_real w t) _ h)

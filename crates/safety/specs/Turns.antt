@@ -20,7 +20,7 @@ use Rattle.replica.specs.Record.{Outcome, place}
 use Rattle.replica.specs.Messages.{clean_reply}
 use Rattle.replica.specs.Added.{moved_exec}
 use Rattle.replica.specs.Step.{Call, call_prepare, call_prepare_reply, call_accept, call_accept_reply, call_commit_notice, call_timeout, call_logged, call_offer, call_executed, call_open_read, call_read_reply, step}
-use Rattle.laws.specs.Theorems.{start_stays}
+use Rattle.laws.proofs.Theorems.{start_stays}
 use Rattle.laws.specs.WaysMessages.{prepare_step_ways, accept_step_ways, accept_reply_step_ways}
 use Rattle.laws.specs.WaysLeadership.{timeout_step_ways, commit_notice_step_ways}
 use Rattle.laws.specs.WaysAdded.{offer_step_ways, executed_step_ways}

@@ -68,17 +68,10 @@ pub no_clash : (m : MergedKey) → (m ≡ Conflict → ⊥) → conflicts m ≡ 
 no_clash (Into b) h = refl
 no_clash Conflict h = absurd (h refl)
 
--- so nothing known is lost: neither falls a slot nor goes a value but to a larger slot
-pub merged_level : (held reply : Best) → level (merged_best held (merge_key held reply)) ≡ larger (level held) (level reply)
-merged_level held reply = ap level (merged_more held reply) ∙ more_level held reply
-
-pub merged_rises : (held reply : Best) → level held ≤ level (merged_best held (merge_key held reply))
-merged_rises held reply = rw (merged_level held reply) (larger_left (level held) (level reply))
-
 -- ANSWERS THAT AGREE
 
 -- two answers are the same only with the same value
-valued : {slot v w : ℕ} → Value (record { slot = slot; value = v }) ≡ Value (record { slot = slot; value = w }) → v ≡ w
+pub valued : {slot v w : ℕ} → Value (record { slot = slot; value = v }) ≡ Value (record { slot = slot; value = w }) → v ≡ w
 valued e = ap (λ (b : Best). (best_numbers b).2) e
 
 -- 02: "no two hold different values for one key at one slot"
@@ -149,32 +142,6 @@ more_associates a b c =
 
 pub more_agrees : (a b c : Best) → Agree a c → Agree b c → Agree (more_known a b) c
 more_agrees a b c p q = pick_both (λ (x : Best). Agree x c) (ltb (level a) (level b)) q p
-
--- THE THREE LAWS. 02: "merging is commutative, associative and idempotent", since where two agree it is the larger of the two in one order
-pub key_larger : (a b : Best) → Agree a b → merge_key a b ≡ Into (more_known a b)
-key_larger a b g = merged_into a (merge_key a b) (Agree-merges a b g) ∙ ap (λ (x : Best). Into x) (merged_more a b)
-
-pub key_idempotent : (a : Best) → merge_key a a ≡ Into a
-key_idempotent a = key_larger a a (Agree-self a) ∙ ap (λ (x : Best). Into x) (more_self a)
-
-pub key_commutes : (a b : Best) → Agree a b → merge_key a b ≡ merge_key b a
-key_commutes a b g = key_larger a b g ∙ (ap (λ (x : Best). Into x) (more_commutes a b g) ∙ sym (key_larger b a (Agree-sym a b g)))
-
-pub key_associates : (a b c x y : Best) → Agree a b → Agree b c → Agree a c → merge_key a b ≡ Into x → merge_key b c ≡ Into y → merge_key x c ≡ merge_key a y
-key_associates a b c x y p q r e f =
-    let left : x ≡ more_known a b = ap (merged_best a) (sym e ∙ key_larger a b p) in
-    let right : y ≡ more_known b c = ap (merged_best b) (sym f ∙ key_larger b c q) in
-    rw (left, right)
-    (key_larger (more_known a b) c (more_agrees a b c r q)
-    ∙ (ap (λ (z : Best). Into z) (more_associates a b c)
-    ∙ sym (key_larger a (more_known b c) (Agree-sym (more_known b c) a (more_agrees b c a (Agree-sym a b p) (Agree-sym a c r))))))
-
--- and the condition is needed: where both orders leave the same, the two agree
-pub commutes_agree : (a b : Best) → merged_best a (merge_key a b) ≡ merged_best b (merge_key b a) → Agree a b
-commutes_agree a b g slot v w e f =
-    valued
-    (sym e
-    ∙ (sym (merged_more a b ∙ more_left a b (rw (e, f) (le_refl _))) ∙ (g ∙ (merged_more b a ∙ (more_left b a (rw (e, f) (le_refl _)) ∙ f)))))
 
 -- MANY ANSWERS
 

@@ -26,21 +26,8 @@ use Rattle.voting.specs.Claims.{Claim, Of}
 use Rattle.voting.specs.Logging.{own_answer, own_book}
 use Rattle.voting.specs.Promises.{step_core}
 use Rattle.voting.specs.Reached.{Good, Good-step}
-use Rattle.voting.specs.Heard.{held_by, held_at, best, arrives, brings, heard, heard_in, Steady, Reign, best-append, best-Choice}
-use Rattle.voting.specs.Held.{heard_ways, held_call}
-
--- while self leads at one ballot, what a slot holds changes only by replies that arrive for it, to the largest
-pub held_step : (r : Replica) (c : Lent) (s : ℕ) → Good r.sc r.window → r.sc.start ≤ s → Steady r c s → held_at (told r c).replica s ≡ best (held_at r s) (heard r c s)
-held_step r c s g st k =
-    ap (λ (x : ℕ). held_by (at_place (told r c).replica.window (s - x))) (step_core r c).start
-    ∙ held_call r c.room c.call s g st k.leading k.leads_on k.same k.here
-
-pub held_play : (r : Replica) (h : List Lent) (s : ℕ) → Good r.sc r.window → r.sc.start ≤ s → Reign r h s → held_at (play r h) s ≡ best (held_at r s) (heard_in r h s)
-held_play r [] s g st k = refl
-held_play r (c ∷ h) s g st k =
-    held_play (told r c).replica h s (Good-step r c g) (omega (arith, (step_core r c).start)) k.1
-    ∙ ap (λ (v : Vote). best v (heard_in (told r c).replica h s)) (held_step r c s g st k.0)
-    ∙ sym (best-append (held_at r s) (heard r c s) (heard_in (told r c).replica h s))
+use Rattle.voting.specs.Heard.{held_by, held_at, best, arrives, brings, heard, heard_in, Steady, Reign, best-append}
+use Rattle.voting.specs.Held.{heard_ways}
 
 -- ── the choice ──
 brings_some : (r : Replica) (m : Reply) (s a : ℕ) → All (λ (v : Vote). 0 < v.ballot) (brings r m s a)
@@ -63,17 +50,10 @@ heard_some r room c s =
     (brings_some (logged r d) (own_answer r d) s (step r room (call_logged d)).answer) tt)
     (λ k n. tt) c
 
-heard_all : (r : Replica) (h : List Lent) (s : ℕ) → All (λ (v : Vote). 0 < v.ballot) (heard_in r h s)
+pub heard_all : (r : Replica) (h : List Lent) (s : ℕ) → All (λ (v : Vote). 0 < v.ballot) (heard_in r h s)
 heard_all r [] s = tt
 heard_all r (c ∷ h) s =
     All-append (λ (v : Vote). 0 < v.ballot) (heard r c s) (heard_in (told r c).replica h s) (heard_some r c.room c.call s) (heard_all (told r c).replica h s)
-
--- 2.2, phase 2 (a): a slot of which nothing was heard yet at this ballot, and any history through which self leads at it: what the slot holds
--- at its end is the paper's choice among the votes heard, and what the slot held at its start where none was
-pub choice : (r : Replica) (h : List Lent) (s : ℕ) → Good r.sc r.window → r.sc.start ≤ s → (held_at r s).ballot ≡ 0 → Reign r h s
-    → Choice (held_at r s).batch (heard_in r h s) (held_at (play r h) s).batch
-choice r h s g st z k =
-    subst (λ (v : Vote). Choice (held_at r s).batch (heard_in r h s) v.batch) (sym (held_play r h s g st k)) (best-Choice (held_at r s) (heard_in r h s) z (heard_all r h s))
 
 -- nothing was heard of a slot that is not there
 pub absent_unheard : (r : Replica) (s : ℕ) → r.window.len ≤ place r.sc s → (held_at r s).ballot ≡ 0

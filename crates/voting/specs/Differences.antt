@@ -39,7 +39,7 @@ use Rattle.voting.specs.Paper.{answers_prepare, may_accept}
 use Rattle.voting.specs.Windows.{Whole, Whole-grown}
 use Rattle.voting.specs.Promises.{PrepareActs, AcceptActs, taken_entry, accept_other, accept_high, accept_told}
 use Rattle.voting.specs.Reached.{Good, reached_prepare_iff, reached_accept_iff}
-use Rattle.voting.specs.Votes.{vote_of, vote_step}
+use Rattle.voting.specs.Votes.{vote_of}
 use Rattle.base.specs.Among.{◌∈◌}
 use Rattle.base.specs.Gather.{gather}
 use Rattle.actions.specs.declared.Action.TheVariants.{Prepare}
@@ -79,14 +79,6 @@ accept_as_paper r g room peer slot ballot f p o l u b q n k = (
   λ a. le-leb r.sc.bal_max_seen ballot ((reached_accept_iff r g room peer slot ballot f p o l u b q n k).0 a),
   λ t. (reached_accept_iff r g room peer slot ballot f p o l u b q n k).1 (leb-true r.sc.bal_max_seen ballot t),
 )
-
--- ── 2.2, phase 2: a leader that enters Accept, or offers, sets no vote of its own: no slot's vote changes ──
-pub reply_sets_no_vote : (r : Replica) (room peer : ℕ) (m : Reply) (s : ℕ) → Whole r.window → strict r.sc ≡ false → r.sc.start ≤ s
-    → vote_of (step r room (call_prepare_reply peer m)).replica s ≡ vote_of r s
-reply_sets_no_vote r room peer m s h base l = vote_step r (record { room = room; call = call_prepare_reply peer m }) s h base l
-
-pub offer_sets_no_vote : (r : Replica) (room : ℕ) (b : Batch) (s : ℕ) → Whole r.window → strict r.sc ≡ false → r.sc.start ≤ s → vote_of (step r room (call_offer b)).replica s ≡ vote_of r s
-offer_sets_no_vote r room b s h base l = vote_step r (record { room = room; call = call_offer b }) s h base l
 
 -- ── 2.5: a leader's Prepare leaves in the call that asks for its own entries, before they are durable ──
 abbrev Asks : Replica → Claim

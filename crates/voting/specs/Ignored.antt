@@ -6,7 +6,7 @@ use Rattle.replica.specs.declared.Replica.{Replica}
 use Rattle.replica.specs.declared.Done.{Done}
 use Rattle.replica.specs.Record.{Outcome}
 use Rattle.replica.specs.Step.{Call}
-use Rattle.laws.specs.Theorems.{kind_stays}
+use Rattle.laws.proofs.Theorems.{kind_stays}
 use Rattle.laws.specs.BallotIgnored.{Alike, ballot_ignored, saying, saying-Alike}
 use Rattle.voting.specs.History.{Lent, told, play}
 

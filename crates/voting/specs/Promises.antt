@@ -34,7 +34,7 @@ use Rattle.replica.specs.Step.{Call, call_prepare, call_prepare_reply, call_acce
 use Rattle.laws.specs.WaysMessages.{prepare_end, prepared, prepare_step_ways, accepted, accept_step_ways, accept_reply_step_ways}
 use Rattle.laws.specs.WaysLeadership.{timeout_step_ways, commit_notice_step_ways, Leads-up}
 use Rattle.laws.specs.WaysAdded.{offer_step_ways, executed_step_ways}
-use Rattle.laws.specs.Theorems.{id_stays, group_stays, start_stays}
+use Rattle.laws.proofs.Theorems.{id_stays, group_stays, start_stays}
 use Rattle.voting.specs.History.{Lent, told, play}
 use Rattle.voting.specs.Claims.{Claim, Of, open_read_way, read_reply_way}
 use Rattle.voting.specs.Replying.{prepare_reply_way}

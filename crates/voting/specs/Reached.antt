@@ -30,8 +30,9 @@ use Rattle.replica.specs.Added.{moved_exec}
 use Rattle.replica.specs.Step.{Call, call_prepare, call_prepare_reply, call_accept, call_accept_reply, call_commit_notice, call_timeout, call_logged, call_offer, call_executed, call_open_read, call_read_reply, step}
 use Rattle.replica.specs.ActingLaws.{Summed}
 use Rattle.laws.specs.OfFit.{fit_facts}
-use Rattle.laws.specs.Theorems.{never_fourteen}
-use Rattle.laws.specs.Summaries.{sums-Summed, Summed-sums, new_sums, Summed-stays}
+use Rattle.laws.proofs.Theorems.{never_fourteen}
+use Rattle.laws.specs.Summaries.{sums-Summed, Summed-sums, new_sums}
+use Rattle.laws.proofs.Summaries.{Summed-stays}
 use Rattle.laws.specs.Counts.{noted_long, heard_long, counted_long}
 use Rattle.laws.specs.WaysMessages.{Peer, Prepares, prepare_end, prepared, prepare_step_ways, Accepts, accepted, accept_step_ways, accept_reply_step_ways}
 use Rattle.laws.specs.WaysReply.{grown_window, reply_window, reply_slot, heard_window, counted_window, Answers, reply_place}

@@ -39,7 +39,7 @@ use Rattle.replica.specs.Quorumread.{answer_act}
 use Rattle.replica.specs.Added.{moved_exec}
 use Rattle.replica.specs.Step.{Call, call_prepare, call_prepare_reply, call_accept, call_accept_reply, call_commit_notice, call_timeout, call_logged, call_offer, call_executed, call_open_read, call_read_reply, step}
 use Rattle.laws.specs.OfFit.{fit_facts}
-use Rattle.laws.specs.Theorems.{kind_stays}
+use Rattle.laws.proofs.Theorems.{kind_stays}
 use Rattle.laws.specs.OfDecide.{heeded}
 use Rattle.laws.specs.WaysMessages.{prepare_end, prepare_step_ways, accept_step_ways, accept_reply_step_ways}
 use Rattle.laws.specs.WaysLeadership.{lead_window, lead_trigger, lead_end, lead_from, led, Leads, timeout_step_ways, mark_window, mark_from, mark_end, Marks, commit_notice_step_ways}

@@ -45,7 +45,7 @@ use Rattle.voting.specs.Replying.{enters_acts, reply_acts, ReplyWays, prepare_re
 use Rattle.voting.specs.Logging.{own_answer, LogWays, logged_way}
 use Rattle.voting.specs.Promises.{accept_says, step_core}
 use Rattle.voting.specs.Reached.{Good, Good-step}
-use Rattle.voting.specs.Votes.{taken, taken_above}
+use Rattle.voting.specs.Votes.{taken}
 use Rattle.voting.specs.Telling.{told_same}
 
 -- ── what is said of one action of a call c at r ──
@@ -248,7 +248,7 @@ NotBelow n StatusDown = Unit {0}
 NotBelow n (Execute p) = Unit {0}
 NotBelow n (ReadAnswer p) = Unit {0}
 
-not_below : (r : Replica) (c : Call) (n : ℕ) → n ≤ r.sc.bal_max_seen → (a : Action) → SaidOf r c a → NotBelow n a
+pub not_below : (r : Replica) (c : Call) (n : ℕ) → n ≤ r.sc.bal_max_seen → (a : Action) → SaidOf r c a → NotBelow n a
 not_below r c n l (AcceptData p) h = omega arith
 not_below r c n l (PrepareReply p) h = tt
 not_below r c n l (AcceptReply p) h = tt
@@ -263,27 +263,7 @@ not_below r c n l StatusDown h = tt
 not_below r c n l (Execute p) h = tt
 not_below r c n l (ReadAnswer p) h = tt
 
--- what is said in a history is not below what was seen before it
-pub entries_above : (r : Replica) (h : List Lent) (n : ℕ) → Good r.sc r.window → n ≤ r.sc.bal_max_seen → All (λ x. NotBelow n x.what) (said_in r h)
-entries_above r [] n g l = tt
-entries_above r (c ∷ h) n g l =
-    All-append (λ x. NotBelow n x.what) (told r c).actions (said_in (told r c).replica h)
-    (All-map (λ x. SaidOf r c.call x.what) (λ x. NotBelow n x.what) (λ x s. not_below r c.call n l x.what s) (told r c).actions (says_ok r c.room c.call g))
-    (entries_above (told r c).replica h n (Good-step r c g) (omega (arith, (step_core r c).seen)))
-
 -- 2.2, P1a: after a PrepareReply at ballot n was sent there is no vote and no accept entry below n, over any history
 pub record Kept (r : Replica) (h : List Lent) (n : ℕ) : Type 0 where
   pub votes : (s : ℕ) → All (λ (v : Vote). n ≤ v.ballot) (taken r h s)
   pub entries : All (λ x. NotBelow n x.what) (said_in r h)
-
-pub promise_kept : (r : Replica) (c : Lent) → Good r.sc r.window → (p : Promised) (keys : List ℕ) → act (PrepareReply p) keys ∈ (told r c).actions → (h : List Lent)
-    → Kept (told r c).replica h p.ballot
-promise_kept r c g p keys m h =
-    let o = (replies_on_completion r c.room c.call g keys).0 p m in
-    let l : p.ballot ≤ (told r c).replica.sc.bal_max_seen = omega (arith, o.at, g.slots (place r.sc p.slot), (step_core r c).seen) in
-    record {
-      votes = λ s.
-          All-map (λ (v : Vote). (told r c).replica.sc.bal_max_seen ≤ v.ballot) (λ (v : Vote). p.ballot ≤ v.ballot) (λ v k. omega arith) (taken (told r c).replica h s)
-          (taken_above (told r c).replica h s);
-      entries = entries_above (told r c).replica h p.ballot (Good-step r c g) l;
-    }

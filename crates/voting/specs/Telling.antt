@@ -27,27 +27,16 @@ use Rattle.voting.specs.Keeping.{logged_keeps}
 use Rattle.voting.specs.History.{Lent, play}
 use Rattle.voting.specs.Claims.{Claim, Of}
 use Rattle.voting.specs.Logging.{LogWays, logged_way}
-use Rattle.voting.specs.Votes.{vote_of, taken, last_of, vote_last, vote_largest}
+use Rattle.voting.specs.Votes.{vote_of, taken, last_of}
 use Rattle.voting.specs.Quorums.{logged_same}
 
-last_in : (v : Vote) (l : List Vote) → ((l ≡ []) × (last_of v l ≡ v)) ⊎ (last_of v l ∈ l)
+pub last_in : (v : Vote) (l : List Vote) → ((l ≡ []) × (last_of v l ≡ v)) ⊎ (last_of v l ∈ l)
 last_in v [] = inl (refl, refl)
 last_in v (x ∷ l) = inr (go (last_in x l))
   where
     go : ((l ≡ []) × (last_of x l ≡ x)) ⊎ (last_of x l ∈ l) → last_of x l ∈ (x ∷ l)
     go (inl e) = Memᴰ.head e.1
     go (inr m) = Memᴰ.tail m
-
--- 2.2, phase 1 (b): a base replica's slot's vote is the highest-numbered of the Accepts taken for it, where one was; on any record with a window of 64
--- slots. What it wrote as a leader is none of them: of the strict kind see `strict_votes` (StrictVotes)
-pub vote_highest : (r : Replica) (h : List Lent) (s : ℕ) → Whole r.window → strict r.sc ≡ false → r.sc.start ≤ s
-    → ((taken r h s ≡ []) × (vote_of (play r h) s ≡ vote_of r s)) ⊎ Highest (taken r h s) (vote_of (play r h) s)
-vote_highest r h s w base l = go (last_in (vote_of r s) (taken r h s))
-  where
-    go : ((taken r h s ≡ []) × (last_of (vote_of r s) (taken r h s) ≡ vote_of r s)) ⊎ (last_of (vote_of r s) (taken r h s) ∈ taken r h s)
-        → ((taken r h s ≡ []) × (vote_of (play r h) s ≡ vote_of r s)) ⊎ Highest (taken r h s) (vote_of (play r h) s)
-    go (inl e) = inl (e.0, vote_last r h s w base l ∙ e.1)
-    go (inr m) = inr (subst (λ (v : Vote). v ∈ taken r h s) (sym (vote_last r h s w base l)) m, vote_largest r h s w base l)
 
 -- a follower's PrepareReply, at the end of its log entry
 abbrev pub promise_acts : Scalars → Slot → ℕ → List Act

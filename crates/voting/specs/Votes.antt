@@ -28,7 +28,7 @@ use Rattle.replica.specs.Added.{moved_exec}
 use Rattle.replica.specs.Step.{Call, call_prepare, call_prepare_reply, call_accept, call_accept_reply, call_commit_notice, call_timeout, call_logged, call_offer, call_executed, call_open_read, call_read_reply, step}
 use Rattle.laws.specs.OfScalars.{followed_seen}
 use Rattle.laws.specs.OfFit.{fit_facts}
-use Rattle.laws.specs.Theorems.{kind_stays}
+use Rattle.laws.proofs.Theorems.{kind_stays}
 use Rattle.laws.specs.WaysMessages.{prepare_window, prepare_end, prepare_step_ways, Accepts, accept_step_ways, accept_reply_step_ways}
 use Rattle.laws.specs.WaysReply.{grown_window, reply_window, reply_slot, heard_window, counted_window, Answers, reply_place}
 use Rattle.laws.specs.WaysLeadership.{lead_window, lead_trigger, lead_end, lead_from, timeout_step_ways, mark_window, mark_from, mark_end, commit_notice_step_ways}
@@ -246,38 +246,26 @@ takes_ways r room s P one none (call_executed slot) = none (call_executed slot) 
 takes_ways r room s P one none (call_open_read id count keys) = none (call_open_read id count keys) refl
 takes_ways r room s P one none (call_read_reply peer id from_leader reply) = none (call_read_reply peer id from_leader reply) refl
 
-vote_call : (r : Replica) (room : ℕ) (k : Call) (s : ℕ) → Whole r.window → strict r.sc ≡ false → r.sc.start ≤ s
+pub vote_call : (r : Replica) (room : ℕ) (k : Call) (s : ℕ) → Whole r.window → strict r.sc ≡ false → r.sc.start ≤ s
     → (at_place (step r room k).replica.window (place r.sc s)).vote ≡ last_of (vote_of r s) (takes r (record { room = room; call = k }) s)
 unfolding Of
 vote_call r room k s h base l =
     takes_ways r room s (λ c v. (at_place (step r room c).replica.window (place r.sc s)).vote ≡ last_of (vote_of r s) v)
     (λ peer slot ballot b. step-Took r room peer slot ballot s b h l) (λ c n. step_votes r room c h base n (place r.sc s)) k
 
--- on any record whose window has 64 slots: a call changes a slot's vote only where it is an Accept for it that acts, and then to its own
-pub vote_step : (r : Replica) (c : Lent) (s : ℕ) → Whole r.window → strict r.sc ≡ false → r.sc.start ≤ s → vote_of (told r c).replica s ≡ last_of (vote_of r s) (takes r c s)
-vote_step r c s h base l = ap (λ (x : ℕ). (at_place (told r c).replica.window (s - x)).vote) (step_core r c).start ∙ vote_call r c.room c.call s h base l
-
-last_append : (v : Vote) (k l : List Vote) → last_of v (k ++ l) ≡ last_of (last_of v k) l
+pub last_append : (v : Vote) (k l : List Vote) → last_of v (k ++ l) ≡ last_of (last_of v k) l
 last_append v [] l = refl
 last_append v (x ∷ k) l = last_append x k l
 
-later : (r : Replica) (c : Lent) (s : ℕ) → r.sc.start ≤ s → (told r c).replica.sc.start ≤ s
+pub later : (r : Replica) (c : Lent) (s : ℕ) → r.sc.start ≤ s → (told r c).replica.sc.start ≤ s
 later r c s l = omega (arith, (step_core r c).start)
 
 -- the kind stays
 pub still_base : (r : Replica) (c : Lent) → strict r.sc ≡ false → strict (told r c).replica.sc ≡ false
 still_base r c base = kind_stays r c.room c.call ∙ base
 
--- 2.2: over any history from any record with a window of 64 slots, a slot's vote is that of the last Accept taken for it
-pub vote_last : (r : Replica) (h : List Lent) (s : ℕ) → Whole r.window → strict r.sc ≡ false → r.sc.start ≤ s → vote_of (play r h) s ≡ last_of (vote_of r s) (taken r h s)
-vote_last r [] s g base l = refl
-vote_last r (c ∷ h) s g base l =
-    vote_last (told r c).replica h s (Whole-step r c g) (still_base r c base) (later r c s l)
-    ∙ ap (λ (v : Vote). last_of v (taken (told r c).replica h s)) (vote_step r c s g base l)
-    ∙ sym (last_append (vote_of r s) (takes r c s) (taken (told r c).replica h s))
-
 -- ── the ballots of what is taken ──
-abbrev IsBetween : Replica → Replica → Vote → Type 0
+abbrev pub IsBetween : Replica → Replica → Vote → Type 0
 IsBetween r r' v = (r.sc.bal_max_seen ≤ v.ballot) × (v.ballot ≡ r'.sc.bal_max_seen)
 
 abbrev TookBallot : Replica → ℕ → ℕ → Vote → Claim
@@ -311,44 +299,16 @@ held_one true x v₀ v e = (e, tt)
 held_one false x v₀ v e = tt
 
 -- what a call takes is the slot's vote after it
-takes_held : (r : Replica) (room : ℕ) (k : Call) (s : ℕ) (x : Vote) → x ≡ last_of (vote_of r s) (takes r (record { room = room; call = k }) s)
+pub takes_held : (r : Replica) (room : ℕ) (k : Call) (s : ℕ) (x : Vote) → x ≡ last_of (vote_of r s) (takes r (record { room = room; call = k }) s)
     → All (λ (y : Vote). x ≡ y) (takes r (record { room = room; call = k }) s)
 takes_held r room k s x =
     takes_ways r room s (λ c v. x ≡ last_of (vote_of r s) v → All (λ (y : Vote). x ≡ y) v)
     (λ peer slot ballot b. held_one (eqb slot s && acts (step r room (call_accept peer slot ballot b))) x (vote_of r s) (record { ballot = ballot; batch = clean b })) (λ c n e. tt) k
 
--- everything taken in a history is not below what was seen before it
-pub taken_above : (r : Replica) (h : List Lent) (s : ℕ) → All (λ (v : Vote). r.sc.bal_max_seen ≤ v.ballot) (taken r h s)
-taken_above r [] s = tt
-taken_above r (c ∷ h) s =
-    All-append (λ (v : Vote). r.sc.bal_max_seen ≤ v.ballot) (takes r c s) (taken (told r c).replica h s)
-    (All-map (IsBetween r (told r c).replica) (λ (v : Vote). r.sc.bal_max_seen ≤ v.ballot) (λ v p. p.0) (takes r c s) (takes_largest r c.room c.call s))
-    (All-map (λ (v : Vote). (told r c).replica.sc.bal_max_seen ≤ v.ballot) (λ (v : Vote). r.sc.bal_max_seen ≤ v.ballot)
-    (λ v p. omega (arith, (step_core r c).seen)) (taken (told r c).replica h s) (taken_above (told r c).replica h s))
-
-last_of-All : (Q : Vote → Type 0) (v : Vote) (l : List Vote) → Q v → All Q l → Q (last_of v l)
+pub last_of-All : (Q : Vote → Type 0) (v : Vote) (l : List Vote) → Q v → All Q l → Q (last_of v l)
 last_of-All Q v [] q a = q
 last_of-All Q v (x ∷ l) q a = last_of-All Q x l a.0 a.1
 
-All-with : (P Q R : Vote → Type 0) → ((v : Vote) → P v → Q v → R v) → (l : List Vote) → All P l → All Q l → All R l
+pub All-with : (P Q R : Vote → Type 0) → ((v : Vote) → P v → Q v → R v) → (l : List Vote) → All P l → All Q l → All R l
 All-with P Q R f [] p q = tt
 All-with P Q R f (x ∷ l) p q = (f x p.0 q.0, All-with P Q R f l p.1 q.1)
-
--- 2.2: and its ballot is the largest of all that were taken for it
-pub vote_largest : (r : Replica) (h : List Lent) (s : ℕ) → Whole r.window → strict r.sc ≡ false → r.sc.start ≤ s
-    → All (λ (v : Vote). v.ballot ≤ (vote_of (play r h) s).ballot) (taken r h s)
-vote_largest r [] s g base l = tt
-vote_largest r (c ∷ h) s g base l =
-    All-append (λ (v : Vote). v.ballot ≤ (vote_of (play r (c ∷ h)) s).ballot) (takes r c s) (taken (told r c).replica h s)
-    (All-with (IsBetween r (told r c).replica) (λ (v : Vote). vote_of (told r c).replica s ≡ v) (λ (v : Vote). v.ballot ≤ (vote_of (play r (c ∷ h)) s).ballot) first (takes r c s)
-    (takes_largest r c.room c.call s)
-    (takes_held r c.room c.call s (vote_of (told r c).replica s) (vote_step r c s g base l)))
-    (vote_largest (told r c).replica h s (Whole-step r c g) (still_base r c base) (later r c s l))
-  where
-    first : (v : Vote) → IsBetween r (told r c).replica v → vote_of (told r c).replica s ≡ v → v.ballot ≤ (vote_of (play r (c ∷ h)) s).ballot
-    first v b e =
-        subst (λ (x : Vote). v.ballot ≤ x.ballot) (sym (vote_last (told r c).replica h s (Whole-step r c g) (still_base r c base) (later r c s l)))
-        (last_of-All (λ (x : Vote). v.ballot ≤ x.ballot) (vote_of (told r c).replica s) (taken (told r c).replica h s)
-        (subst (λ (x : Vote). v.ballot ≤ x.ballot) (sym e) (le_refl v.ballot))
-        (All-map (λ (x : Vote). (told r c).replica.sc.bal_max_seen ≤ x.ballot) (λ (x : Vote). v.ballot ≤ x.ballot) (λ x p. let z = b.1 in omega arith) (taken (told r c).replica h s)
-        (taken_above (told r c).replica h s)))

@@ -2,7 +2,7 @@
 use Rattle.std.proofs.Common.{◌∙◌}
 use Rattle.std.specs.Prelude.{List, [], ◌∷◌}
 use Rattle.replica.specs.declared.Replica.{Replica}
-use Rattle.laws.specs.Theorems.{slots_stay}
+use Rattle.laws.proofs.Theorems.{slots_stay}
 use Rattle.voting.specs.Windows.{Whole}
 use Rattle.voting.specs.History.{Lent, told, play}
 

@@ -5,7 +5,8 @@ use native.Mathlib.Omega.{arith}
 use lib.ListN.{length}
 use Rattle.replica.specs.AdmitLaws.{Ready, owner_facts}
 use Rattle.replica.specs.ActingLaws.{refuse, keep, told}
-use Rattle.replica.specs.MessageLaws.{prepare_fits, prepare_shut, prepare_below, prepare_old, prepare_past, prepare_goes}
+use Rattle.replica.specs.MessageLaws.{prepare_fits}
+use Rattle.replica.proofs.MessageLaws.{prepare_shut, prepare_below, prepare_old, prepare_past, prepare_goes}
 use Rattle.replica.proofs.Replica.prepare.Goals as goal
 
 pub returns-then-first-ne0 : goal.returns-then-first-ne0

@@ -1,0 +1,13 @@
+pub mod Acks
+pub mod ChosenIf
+pub mod Commits
+pub mod Entries
+pub mod Group
+pub mod Ignored
+pub mod Learning
+pub mod Proposed
+pub mod Runs
+pub mod StrictRuns
+pub mod StrictTells
+pub mod Truth
+pub mod Unsafe

@@ -1,0 +1,9 @@
+pub mod AnyOrderRuns
+pub mod BetweenReplies
+pub mod Falls
+pub mod InARow
+pub mod KindCalls
+pub mod OpenReads
+pub mod Sound
+pub mod Summaries
+pub mod Theorems

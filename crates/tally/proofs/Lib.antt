@@ -1,0 +1,4 @@
+pub mod AnyOrder
+pub mod Larger
+pub mod Laws
+pub mod ReadOrder

@@ -1,0 +1,10 @@
+pub mod Choice
+pub mod Core
+pub mod Differences
+pub mod Entering
+pub mod Heard
+pub mod Held
+pub mod Implied
+pub mod Speaking
+pub mod Telling
+pub mod Votes
