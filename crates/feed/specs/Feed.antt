@@ -1,5 +1,7 @@
 -- The bytes of a trace, as they come in: what is kept of them from one read to the next.
-use Rattle.std.specs.Prelude.{ℕ, ◌-◌, ◌%◌, ◌≤◌, ◌<◌, true, false, List, ◌≡◌, leb, eqb, length, take, drop}
+use Rattle.std.specs.Prelude.{ℕ, ◌-◌, ◌%◌, ◌≤◌, ◌<◌, true, false, List, ◌≡◌, leb, eqb, length, take, drop, slice_range}
+use Rattle.std.specs.declared.option.Option.{Option}
+use Rattle.std.specs.Io.KnownBytes.{Consumes, Keeps, IsAtEnd}
 use Rattle.std.proofs.Math.Seq.{paste}
 use Rattle.base.specs.Pick.{pick}
 use Rattle.feed.specs.declared.Input.{Input}
@@ -14,6 +16,13 @@ pub record ReadBehind (bytes : List ℕ) (have : ℕ) (r : Input) (after : List 
   pub fails : r.failed ≡ true → r.have ≡ have
   -- where there are not so many bytes nothing is read
   pub refused : length bytes < have → (r ≡ record { have = 0; ended = true; failed = false }) × (after ≡ bytes)
+
+-- the same read at a reader that had the bytes `old` left, and then `new`, where these are known: the bytes that came are the next of them, a read
+-- that fails takes none, and the end is the end of them, unless there was no room
+pub record ReadNext (old new : Option (List ℕ)) (have : ℕ) (r : Input) (after : List ℕ) : Type 0 where
+  pub came : r.failed ≡ false → Consumes old new (slice_range after have r.have)
+  pub kept : r.failed ≡ true → Keeps old new
+  pub done : r.failed ≡ false → r.ended ≡ true → have < length after → IsAtEnd new
 
 -- of the first n bytes, how many stand past the last whole record of 256
 abbrev pub begun : List ℕ → ℕ → ℕ

@@ -1,10 +1,12 @@
-// A trace as it comes in on standard input, and text as it goes out: what is read is added to the bytes of a record begun.
+// A trace as it comes in, and text as it goes out: what is read is added to the bytes of a record begun.
 #![tactic(auto)]
 
-ghost use Rattle.std.specs.Prelude.{◌<◌, false, ◌≡◌, length};
-ghost use Rattle.feed.specs.Feed.{ReadBehind, Fronted};
+ghost use Rattle.std.specs.Prelude.{◌<◌, false, ◌≡◌, length, take};
+ghost use Rattle.std.specs.Bool.{OnTrue};
+ghost use Rattle.std.specs.Io.KnownBytes.{Appends, Keeps};
+ghost use Rattle.feed.specs.Feed.{ReadBehind, ReadNext, Fronted};
 
-use libc::{STDERR_FILENO, STDIN_FILENO, STDOUT_FILENO};
+use std::io::{ErrorKind, Read, Write};
 
 // What a read left: how many bytes there are now, and whether there is no more to come.
 #[derive(Clone, Copy)]
@@ -16,8 +18,14 @@ pub struct Input {
 
 // Reads once, behind the first `have` bytes, which stay; where there are not so many, nothing is read. Where the read fails, standard error
 // says so.
-pub fn read_more(bytes: &mut [u8], have: usize) -> Input
-    ensures { ReadBehind bytes.old have result bytes.new }
+pub fn read_more<R: Read>(
+    reader: &mut R,
+    errors: &impl Eprint,
+    bytes: &mut [u8],
+    have: usize,
+) -> Input
+    ensures behind { ReadBehind bytes.old have result bytes.new }
+    ensures next { ReadNext (R.remaining reader.old) (R.remaining reader.new) have result bytes.new }
 {
     if bytes.len() < have {
         return Input {
@@ -26,20 +34,20 @@ pub fn read_more(bytes: &mut [u8], have: usize) -> Input
             failed: false,
         };
     }
-    let got = libc::read(STDIN_FILENO, &mut bytes[have..]);
-    if got < 0 {
-        io::write_all(STDERR_FILENO, b"standard input cannot be read\n");
-        return Input {
-            have: have,
-            ended: true,
-            failed: true,
-        };
-    }
-    let more = io::count(got, &bytes[have..]);
-    Input {
-        have: have + more,
-        ended: more == 0,
-        failed: false,
+    match reader.read(&mut bytes[have..]) {
+        Ok(more) => Input {
+            have: have + more,
+            ended: more == 0,
+            failed: false,
+        },
+        Err(_) => {
+            let _ = errors.eprintln("standard input cannot be read");
+            Input {
+                have: have,
+                ended: true,
+                failed: true,
+            }
+        }
     }
 }
 
@@ -59,16 +67,22 @@ pub fn keep_rest(bytes: &mut [u8], n: usize) -> usize
     rest
 }
 
-// Writes the first n bytes of a text to standard output; false where there are not n. Where that fails, standard error says so.
-pub fn write_text(text: &[u8], n: usize) -> bool
-    ensures { length text.now < n → result ≡ false }
+// Writes the first n bytes of a text; false where there are not n. Where that fails, standard error says so, but for a pipe that nobody reads.
+pub fn write_text<W: Write>(writer: &mut W, errors: &impl Eprint, text: &[u8], n: usize) -> bool
+    ensures short { length text.now < n → result ≡ false }
+    ensures none { length text.now < n → Keeps (W.contents writer.old) (W.contents writer.new) }
+    ensures all { OnTrue result (Appends (W.contents writer.old) (W.contents writer.new) (take n text.now)) }
 {
     if text.len() < n {
         return false;
     }
-    let done = io::write_all(STDOUT_FILENO, &text[0..n]);
-    if !done {
-        io::write_all(STDERR_FILENO, b"standard output cannot be written\n");
+    match writer.write_all(&text[0..n]) {
+        Ok(()) => true,
+        Err(e) => {
+            if e.kind() != ErrorKind::BrokenPipe {
+                let _ = errors.eprintln("standard output cannot be written");
+            }
+            false
+        }
     }
-    done
 }
