@@ -8,6 +8,9 @@ ghost use Rattle.feed.specs.Feed.{ReadBehind, ReadNext, Fronted};
 
 use std::io::{ErrorKind, Read, Write};
 
+#[cfg(test)]
+mod tests;
+
 // What a read left: how many bytes there are now, and whether there is no more to come.
 #[derive(Clone, Copy)]
 pub struct Input {
