@@ -7,9 +7,14 @@ mod heading;
 mod line;
 mod say;
 
-fn main() {
-    heading::print();
+use std::io;
+use std::io::{BufWriter, Write};
+
+fn main(rt: HostRuntime) -> io::Result<()> {
+    let mut out = BufWriter::new(rt.alloc(), io::writer(&rt))?;
+    heading::print(&mut out)?;
     for set in 0..512 {
-        line::print(set);
+        line::print(&mut out, set)?;
     }
+    out.flush()
 }
