@@ -3,14 +3,16 @@ ghost use Rattle.std.specs.Prelude.{◌≤◌};
 
 use crate::say;
 use batch::{Batch, KeyTable};
+use std::io;
+use std::io::Write;
 
-fn make(id: u64, count: usize) {
+fn make(out: &mut impl Write, id: u64, count: usize) -> io::Result<()> {
     let made = batch::make(id, count, [1, 2, 3, 4, 5, 6, 7, 8]);
     let b = made.batch;
-    say::label(b"make");
-    say::number(made.answer);
-    say::batch(b);
-    say::end();
+    say::label(out, "make")?;
+    say::number(out, made.answer)?;
+    say::batch(out, b)?;
+    say::end(out)
 }
 
 fn of(id: u64, count: usize, keys: [u64; 8]) -> Batch {
@@ -21,65 +23,65 @@ fn of(id: u64, count: usize, keys: [u64; 8]) -> Batch {
     }
 }
 
-fn same(a: Batch, b: Batch) {
-    say::label(b"same");
-    say::flag(batch::same(a, b));
-    say::end();
+fn same(out: &mut impl Write, a: Batch, b: Batch) -> io::Result<()> {
+    say::label(out, "same")?;
+    say::flag(out, batch::same(a, b))?;
+    say::end(out)
 }
 
-fn empty(b: Batch) {
-    say::label(b"empty");
-    say::flag(b.is_empty());
-    say::end();
+fn empty(out: &mut impl Write, b: Batch) -> io::Result<()> {
+    say::label(out, "empty")?;
+    say::flag(out, b.is_empty())?;
+    say::end(out)
 }
 
-fn place(t: KeyTable, key: u64) {
-    say::label(b"place");
-    say::number(key);
+fn place(out: &mut impl Write, t: KeyTable, key: u64) -> io::Result<()> {
+    say::label(out, "place")?;
+    say::number(out, key)?;
     let at = batch::find(&t.keys, t.count, key);
-    say::number(at as u64);
-    say::end();
+    say::number(out, at as u64)?;
+    say::end(out)
 }
 
-fn full(t: KeyTable, b: Batch) {
-    say::label(b"full");
-    say::flag(t.overfull(b));
-    say::end();
+fn full(out: &mut impl Write, t: KeyTable, b: Batch) -> io::Result<()> {
+    say::label(out, "full")?;
+    say::flag(out, t.overfull(b))?;
+    say::end(out)
 }
 
-fn makes() {
-    make(7, 8);
-    make(7, 9);
-    make(0, 1);
-    make(0, 0);
-    make(7, 0);
-    make(7, 2);
+fn makes(out: &mut impl Write) -> io::Result<()> {
+    make(out, 7, 8)?;
+    make(out, 7, 9)?;
+    make(out, 0, 1)?;
+    make(out, 0, 0)?;
+    make(out, 7, 0)?;
+    make(out, 7, 2)
 }
 
-fn sames() {
+fn sames(out: &mut impl Write) -> io::Result<()> {
     let a = of(7, 2, [1, 2, 0, 0, 0, 0, 0, 0]);
-    same(a, of(7, 2, [1, 2, 9, 9, 9, 9, 9, 9]));
-    same(a, of(8, 2, [1, 2, 0, 0, 0, 0, 0, 0]));
-    same(a, of(7, 3, [1, 2, 0, 0, 0, 0, 0, 0]));
-    same(a, of(7, 2, [1, 3, 0, 0, 0, 0, 0, 0]));
+    same(out, a, of(7, 2, [1, 2, 9, 9, 9, 9, 9, 9]))?;
+    same(out, a, of(8, 2, [1, 2, 0, 0, 0, 0, 0, 0]))?;
+    same(out, a, of(7, 3, [1, 2, 0, 0, 0, 0, 0, 0]))?;
+    same(out, a, of(7, 2, [1, 3, 0, 0, 0, 0, 0, 0]))?;
     let none = batch::empty_batch();
-    same(none, none);
-    empty(none);
-    empty(of(7, 0, [0; 8]));
+    same(out, none, none)?;
+    empty(out, none)?;
+    empty(out, of(7, 0, [0; 8]))
 }
 
 // A repeated key, a key known at a larger slot, a key known at a smaller one.
-fn tables() {
+fn tables(out: &mut impl Write) -> io::Result<()> {
     let t = batch::empty_table();
-    say::table(t);
+    say::table(out, t)?;
     let t1 = t.refresh(3, of(1, 3, [10, 20, 10, 0, 0, 0, 0, 0]));
-    say::table(t1);
+    say::table(out, t1)?;
     let t2 = t1.refresh(2, of(2, 2, [20, 30, 0, 0, 0, 0, 0, 0]));
-    say::table(t2);
+    say::table(out, t2)?;
     let t3 = t2.refresh(9, of(3, 1, [10, 0, 0, 0, 0, 0, 0, 0]));
-    say::table(t3);
-    place(t3, 20);
-    place(t3, 99);
+    say::table(out, t3)?;
+    place(out, t3, 20)?;
+    place(out, t3, 99)
 }
 
 // A table that knows the keys from 0 up to eight times n.
@@ -96,63 +98,65 @@ fn filled(n: u64) -> KeyTable
 }
 
 // Exactly full, one more, a repeated key, a known key; then a full table: known keys, a new one, none.
-fn fulls() {
+fn fulls(out: &mut impl Write) -> io::Result<()> {
     let most = filled(31);
     let fresh = of(2, 8, [1000, 1001, 1002, 1003, 1004, 1005, 1006, 1007]);
-    full(most, fresh);
+    full(out, most, fresh)?;
     let more = most.refresh(1, of(3, 1, [248, 0, 0, 0, 0, 0, 0, 0]));
-    full(more, fresh);
+    full(out, more, fresh)?;
     full(
+        out,
         more,
         of(2, 8, [1000, 1000, 1001, 1002, 1003, 1004, 1005, 1006]),
-    );
+    )?;
     full(
+        out,
         more,
         of(2, 8, [0, 1000, 1001, 1002, 1003, 1004, 1005, 1006]),
-    );
+    )?;
     let all = filled(32);
-    full(all, of(2, 8, [0, 8, 16, 24, 32, 40, 48, 255]));
-    full(all, of(2, 2, [255, 256, 0, 0, 0, 0, 0, 0]));
-    full(all, of(0, 0, [0; 8]));
-    last(all.refresh(5, of(2, 2, [255, 256, 0, 0, 0, 0, 0, 0])));
+    full(out, all, of(2, 8, [0, 8, 16, 24, 32, 40, 48, 255]))?;
+    full(out, all, of(2, 2, [255, 256, 0, 0, 0, 0, 0, 0]))?;
+    full(out, all, of(0, 0, [0; 8]))?;
+    last(out, all.refresh(5, of(2, 2, [255, 256, 0, 0, 0, 0, 0, 0])))
 }
 
-fn last(t: KeyTable) {
-    say::label(b"last");
-    say::number(t.count as u64);
-    say::number(t.keys[254]);
-    say::number(t.slots[254]);
-    say::number(t.keys[255]);
-    say::number(t.slots[255]);
-    say::end();
+fn last(out: &mut impl Write, t: KeyTable) -> io::Result<()> {
+    say::label(out, "last")?;
+    say::number(out, t.count as u64)?;
+    say::number(out, t.keys[254])?;
+    say::number(out, t.slots[254])?;
+    say::number(out, t.keys[255])?;
+    say::number(out, t.slots[255])?;
+    say::end(out)
 }
 
-fn noted(count: usize, key: u64, slot: u64) {
-    say::label(b"note");
-    say::three(count as u64, key, slot);
-    say::end();
+fn noted(out: &mut impl Write, count: usize, key: u64, slot: u64) -> io::Result<()> {
+    say::label(out, "note")?;
+    say::three(out, count as u64, key, slot)?;
+    say::end(out)
 }
 
-fn over(used: &[u64; 256], count: usize, b: Batch) {
-    say::label(b"over");
-    say::flag(batch::overfull_in(used, count, b));
-    say::end();
+fn over(out: &mut impl Write, used: &[u64; 256], count: usize, b: Batch) -> io::Result<()> {
+    say::label(out, "over")?;
+    say::flag(out, batch::overfull_in(used, count, b))?;
+    say::end(out)
 }
 
-fn first(count: usize) {
-    say::label(b"first");
-    say::eight(batch::first_keys(count, [1, 2, 3, 4, 5, 6, 7, 8]));
-    say::end();
+fn first(out: &mut impl Write, count: usize) -> io::Result<()> {
+    say::label(out, "first")?;
+    say::eight(out, batch::first_keys(count, [1, 2, 3, 4, 5, 6, 7, 8]))?;
+    say::end(out)
 }
 
 // The lent forms: a new key, a smaller slot, a batch, a full table; 7 at a full table for a new and a known key, and with one place left.
-fn lent() {
+fn lent(out: &mut impl Write) -> io::Result<()> {
     let mut keys = [0u64; 256];
     let mut slots = [0u64; 256];
     let a = batch::note(&mut keys, &mut slots, 0, 10, 3);
-    noted(a, keys[0], slots[0]);
+    noted(out, a, keys[0], slots[0])?;
     let b = batch::note(&mut keys, &mut slots, a, 10, 2);
-    noted(b, keys[0], slots[0]);
+    noted(out, b, keys[0], slots[0])?;
     let c = batch::note_batch(
         &mut keys,
         &mut slots,
@@ -160,21 +164,21 @@ fn lent() {
         7,
         of(1, 2, [10, 20, 0, 0, 0, 0, 0, 0]),
     );
-    noted(c, keys[0], slots[0]);
+    noted(out, c, keys[0], slots[0])?;
     let d = batch::note(&mut keys, &mut slots, 256, 99, 1);
-    noted(d, keys[0], slots[0]);
-    over(&keys, 256, of(2, 1, [99, 0, 0, 0, 0, 0, 0, 0]));
-    over(&keys, 256, of(2, 1, [10, 0, 0, 0, 0, 0, 0, 0]));
-    over(&keys, 255, of(2, 1, [99, 0, 0, 0, 0, 0, 0, 0]));
+    noted(out, d, keys[0], slots[0])?;
+    over(out, &keys, 256, of(2, 1, [99, 0, 0, 0, 0, 0, 0, 0]))?;
+    over(out, &keys, 256, of(2, 1, [10, 0, 0, 0, 0, 0, 0, 0]))?;
+    over(out, &keys, 255, of(2, 1, [99, 0, 0, 0, 0, 0, 0, 0]))
 }
 
-pub(crate) fn run() {
-    makes();
-    sames();
-    tables();
-    fulls();
-    lent();
-    first(2);
-    first(9);
-    first(0);
+pub(crate) fn run(out: &mut impl Write) -> io::Result<()> {
+    makes(out)?;
+    sames(out)?;
+    tables(out)?;
+    fulls(out)?;
+    lent(out)?;
+    first(out, 2)?;
+    first(out, 9)?;
+    first(out, 0)
 }

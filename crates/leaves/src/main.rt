@@ -7,9 +7,14 @@ mod reads;
 mod say;
 mod sets;
 
-fn main() {
-    merges::run();
-    sets::run();
-    batches::run();
-    reads::run();
+use std::io;
+use std::io::{BufWriter, Write};
+
+fn main(rt: HostRuntime) -> io::Result<()> {
+    let mut out = BufWriter::new(rt.alloc(), io::writer(&rt))?;
+    merges::run(&mut out)?;
+    sets::run(&mut out)?;
+    batches::run(&mut out)?;
+    reads::run(&mut out)?;
+    out.flush()
 }

@@ -1,5 +1,7 @@
 // Every case of 01's merge: what is held against what is told, with a smaller, an equal and a larger slot, an equal and another value.
 use crate::say;
+use std::io;
+use std::io::Write;
 use tally::merge::merge_key;
 use tally::{Best, Held, MergedKey};
 
@@ -33,41 +35,41 @@ fn told(k: u64) -> Best {
     }
 }
 
-fn pair(h: u64, t: u64) {
-    say::label(b"merge");
-    say::number(h);
-    say::number(t);
+fn pair(out: &mut impl Write, h: u64, t: u64) -> io::Result<()> {
+    say::label(out, "merge")?;
+    say::number(out, h)?;
+    say::number(out, t)?;
     let ours = held(h);
     let theirs = told(t);
     let merged = merge_key(ours, theirs);
     match merged {
         MergedKey::Into(b) => {
-            say::number(0);
-            say::best(b);
+            say::number(out, 0)?;
+            say::best(out, b)?;
         }
         MergedKey::Conflict => {
-            say::number(12);
-            say::three(0, 0, 0);
+            say::number(out, 12)?;
+            say::three(out, 0, 0, 0)?;
         }
     }
-    say::end();
+    say::end(out)
 }
 
-fn row(h: u64) {
-    pair(h, 0);
-    pair(h, 1);
-    pair(h, 2);
-    pair(h, 3);
-    pair(h, 4);
-    pair(h, 5);
-    pair(h, 6);
-    pair(h, 7);
-    pair(h, 8);
-    pair(h, 9);
+fn row(out: &mut impl Write, h: u64) -> io::Result<()> {
+    pair(out, h, 0)?;
+    pair(out, h, 1)?;
+    pair(out, h, 2)?;
+    pair(out, h, 3)?;
+    pair(out, h, 4)?;
+    pair(out, h, 5)?;
+    pair(out, h, 6)?;
+    pair(out, h, 7)?;
+    pair(out, h, 8)?;
+    pair(out, h, 9)
 }
 
-pub(crate) fn run() {
-    row(0);
-    row(1);
-    row(2);
+pub(crate) fn run(out: &mut impl Write) -> io::Result<()> {
+    row(out, 0)?;
+    row(out, 1)?;
+    row(out, 2)
 }

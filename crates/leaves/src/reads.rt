@@ -1,6 +1,8 @@
 // Tallies, open reads, and replies to one.
 use crate::merges::value;
 use crate::say;
+use std::io;
+use std::io::Write;
 use tally::merge::{answer_of, merge};
 use tally::open_reads::{no_reads, nothing_known, reply_to};
 use tally::{Best, KeyBest, Read, Reads, Replied, Tally};
@@ -21,234 +23,251 @@ fn told(count: usize) -> Tally {
     of(count, Best::Slot(6), value(5, 51), Best::Slot(7))
 }
 
-fn tally(ours: Tally, theirs: Tally) {
+fn tally(out: &mut impl Write, ours: Tally, theirs: Tally) -> io::Result<()> {
     let m = merge(ours, theirs);
     let t = m.tally;
-    say::label(b"tally");
-    say::number(m.answer);
-    say::tally(t);
-    say::end();
+    say::label(out, "tally")?;
+    say::number(out, m.answer)?;
+    say::tally(out, t)?;
+    say::end(out)
 }
 
 // Nothing known; unequal lengths; nine keys of both, of the held one, of the reply; a conflict at the second of three keys; none; past the
 // count; no keys.
-fn tallies() {
-    tally(nothing_known(3), nothing_known(3));
-    tally(held(2), told(3));
-    tally(held(3), told(2));
-    tally(held(9), told(9));
-    tally(held(9), told(3));
-    tally(held(3), told(9));
-    tally(held(3), told(3));
-    tally(held(3), of(3, value(5, 51), Best::Slot(6), value(7, 70)));
-    tally(held(1), told(1));
-    tally(held(0), told(0));
+fn tallies(out: &mut impl Write) -> io::Result<()> {
+    tally(out, nothing_known(3), nothing_known(3))?;
+    tally(out, held(2), told(3))?;
+    tally(out, held(3), told(2))?;
+    tally(out, held(9), told(9))?;
+    tally(out, held(9), told(3))?;
+    tally(out, held(3), told(9))?;
+    tally(out, held(3), told(3))?;
+    tally(
+        out,
+        held(3),
+        of(3, value(5, 51), Best::Slot(6), value(7, 70)),
+    )?;
+    tally(out, held(1), told(1))?;
+    tally(out, held(0), told(0))
 }
 
-fn answer(leader: u64, b: Best) {
+fn answer(out: &mut impl Write, leader: u64, b: Best) -> io::Result<()> {
     let a = answer_of(leader, b);
-    say::label(b"answer");
-    say::number(a.tag);
-    say::number(a.value);
-    say::end();
+    say::label(out, "answer")?;
+    say::number(out, a.tag)?;
+    say::number(out, a.value)?;
+    say::end(out)
 }
 
-fn answers() {
-    answer(3, Best::Nothing);
-    answer(3, Best::Slot(5));
-    answer(255, Best::Slot(5));
-    answer(3, value(5, 50));
+fn answers(out: &mut impl Write) -> io::Result<()> {
+    answer(out, 3, Best::Nothing)?;
+    answer(out, 3, Best::Slot(5))?;
+    answer(out, 255, Best::Slot(5))?;
+    answer(out, 3, value(5, 50))
 }
 
-fn find(rs: Reads, id: u64) {
-    say::label(b"find");
-    say::number(id);
+fn find(out: &mut impl Write, rs: Reads, id: u64) -> io::Result<()> {
+    say::label(out, "find")?;
+    say::number(out, id)?;
     let at = rs.find(id);
-    say::number(at as u64);
-    say::end();
+    say::number(out, at as u64)?;
+    say::end(out)
 }
 
-fn opened(rs: Reads, id: u64, count: usize) -> Reads {
+fn opened(out: &mut impl Write, rs: Reads, id: u64, count: usize) -> io::Result<Reads> {
     let o = rs.open_read(id, count, [11, 12, 13, 14, 15, 16, 17, 18]);
     let after = o.reads;
-    say::label(b"open");
-    say::number(o.answer);
-    say::number(after.count as u64);
-    say::end();
-    after
+    say::label(out, "open")?;
+    say::number(out, o.answer)?;
+    say::number(out, after.count as u64)?;
+    say::end(out)?;
+    Ok(after)
 }
 
-fn read(r: Read) {
+fn read(out: &mut impl Write, r: Read) -> io::Result<()> {
     let keys = r.keys;
     let t = r.tally;
-    say::label(b"read");
-    say::number(r.id);
-    say::number(r.acks);
-    say::eight(keys);
-    say::tally(t);
-    say::end();
+    say::label(out, "read")?;
+    say::number(out, r.id)?;
+    say::number(out, r.acks)?;
+    say::eight(out, keys)?;
+    say::tally(out, t)?;
+    say::end(out)
 }
 
 // No keys, nine, one, an id in use, eight; and the two that are open.
-fn few() -> Reads {
+fn few(out: &mut impl Write) -> io::Result<Reads> {
     let rs = no_reads();
-    find(rs, 0);
-    let a = opened(rs, 1, 0);
-    let b = opened(a, 1, 9);
-    let c = opened(b, 1, 1);
-    let d = opened(c, 1, 1);
-    let e = opened(d, 2, 8);
-    read(e.reads[0]);
-    read(e.reads[1]);
-    e
+    find(out, rs, 0)?;
+    let a = opened(out, rs, 1, 0)?;
+    let b = opened(out, a, 1, 9)?;
+    let c = opened(out, b, 1, 1)?;
+    let d = opened(out, c, 1, 1)?;
+    let e = opened(out, d, 2, 8)?;
+    read(out, e.reads[0])?;
+    read(out, e.reads[1])?;
+    Ok(e)
 }
 
-fn put(count: usize, r: Read) {
-    say::label(b"put");
-    say::three(count as u64, r.id, r.acks);
-    say::end();
+fn put(out: &mut impl Write, count: usize, r: Read) -> io::Result<()> {
+    say::label(out, "put")?;
+    say::three(out, count as u64, r.id, r.acks)?;
+    say::end(out)
 }
 
 // A read in use is written anew; a place that is not in use stays.
-fn puts(rs: Reads) {
+fn puts(out: &mut impl Write, rs: Reads) -> io::Result<()> {
     let mut r = rs.reads[1];
     r.acks = 6;
     let a = rs.put(1, r);
-    put(a.count, a.reads[1]);
+    put(out, a.count, a.reads[1])?;
     let b = rs.put(2, r);
-    put(b.count, b.reads[2]);
+    put(out, b.count, b.reads[2])
 }
 
-fn more(rs: Reads) -> Reads {
-    let a = opened(rs, 3, 1);
-    let b = opened(a, 4, 1);
-    let c = opened(b, 5, 1);
-    let d = opened(c, 6, 1);
-    let e = opened(d, 7, 1);
-    let f = opened(e, 8, 1);
-    opened(f, 9, 1)
+fn more(out: &mut impl Write, rs: Reads) -> io::Result<Reads> {
+    let a = opened(out, rs, 3, 1)?;
+    let b = opened(out, a, 4, 1)?;
+    let c = opened(out, b, 5, 1)?;
+    let d = opened(out, c, 6, 1)?;
+    let e = opened(out, d, 7, 1)?;
+    let f = opened(out, e, 8, 1)?;
+    opened(out, f, 9, 1)
 }
 
-fn most(rs: Reads) -> Reads {
-    let a = opened(rs, 10, 1);
-    let b = opened(a, 11, 1);
-    let c = opened(b, 12, 1);
-    let d = opened(c, 13, 1);
-    let e = opened(d, 14, 1);
-    let f = opened(e, 15, 1);
-    opened(f, 16, 1)
+fn most(out: &mut impl Write, rs: Reads) -> io::Result<Reads> {
+    let a = opened(out, rs, 10, 1)?;
+    let b = opened(out, a, 11, 1)?;
+    let c = opened(out, b, 12, 1)?;
+    let d = opened(out, c, 13, 1)?;
+    let e = opened(out, d, 14, 1)?;
+    let f = opened(out, e, 15, 1)?;
+    opened(out, f, 16, 1)
 }
 
-fn closed(rs: Reads, at: usize) -> Reads {
+fn closed(out: &mut impl Write, rs: Reads, at: usize) -> io::Result<Reads> {
     let after = rs.close(at);
     let eighth = after.reads[8];
-    say::label(b"close");
-    say::number(after.count as u64);
-    say::number(eighth.id);
-    say::end();
-    after
+    say::label(out, "close")?;
+    say::number(out, after.count as u64)?;
+    say::number(out, eighth.id)?;
+    say::end(out)?;
+    Ok(after)
 }
 
 // The seventeenth read, an id in use and no keys come to a full table; then the read with id 9 closes, and there is room.
-fn full(rs: Reads) {
-    let a = opened(rs, 17, 1);
-    let b = opened(a, 1, 1);
-    let c = opened(b, 17, 0);
-    find(c, 9);
-    find(c, 16);
-    find(c, 17);
-    let d = closed(c, 8);
-    find(d, 9);
-    find(d, 16);
-    let e = closed(d, 15);
-    let f = opened(e, 17, 1);
-    find(f, 17);
+fn full(out: &mut impl Write, rs: Reads) -> io::Result<()> {
+    let a = opened(out, rs, 17, 1)?;
+    let b = opened(out, a, 1, 1)?;
+    let c = opened(out, b, 17, 0)?;
+    find(out, c, 9)?;
+    find(out, c, 16)?;
+    find(out, c, 17)?;
+    let d = closed(out, c, 8)?;
+    find(out, d, 9)?;
+    find(out, d, 16)?;
+    let e = closed(out, d, 15)?;
+    let f = opened(out, e, 17, 1)?;
+    find(out, f, 17)
 }
 
 // A count above 16 is no table's: no place of it is in use, and there is no room.
-fn unfit() {
+fn unfit(out: &mut impl Write) -> io::Result<()> {
     let mut rs = no_reads();
     rs.count = 17;
-    find(rs, 0);
-    opened(rs, 1, 1);
-    closed(rs, 0);
+    find(out, rs, 0)?;
+    opened(out, rs, 1, 1)?;
+    closed(out, rs, 0)?;
+    Ok(())
 }
 
-fn replied(quorum: u64, peer: u64, leads: bool, list: Tally, r: Read) -> Read {
+fn replied(
+    out: &mut impl Write,
+    quorum: u64,
+    peer: u64,
+    leads: bool,
+    list: Tally,
+    r: Read,
+) -> io::Result<Read> {
     let o = reply_to(quorum, peer, leads, list, r);
-    shown(o);
-    o.read
+    shown(out, o)?;
+    Ok(o.read)
 }
 
-fn shown(o: Replied) {
+fn shown(out: &mut impl Write, o: Replied) -> io::Result<()> {
     let r = o.read;
     let t = r.tally;
-    say::label(b"reply");
-    say::number(o.answer);
-    say::flag(o.closes);
-    say::number(o.answers as u64);
-    say::number(r.acks);
-    say::tally(t);
-    say::end();
+    say::label(out, "reply")?;
+    say::number(out, o.answer)?;
+    say::flag(out, o.closes)?;
+    say::number(out, o.answers as u64)?;
+    say::number(out, r.acks)?;
+    say::tally(out, t)?;
+    say::end(out)
 }
 
 // A first reply, the same member again, unequal lengths, nine keys, a quorum of two.
-fn replies(r: Read) -> Read {
+fn replies(out: &mut impl Write, r: Read) -> io::Result<Read> {
     let first = of(2, Best::Slot(4), value(5, 50), Best::Nothing);
-    let a = replied(2, 1, false, first, r);
+    let a = replied(out, 2, 1, false, first, r)?;
     let b = replied(
+        out,
         2,
         1,
         false,
         of(2, Best::Slot(9), Best::Slot(9), Best::Nothing),
         a,
-    );
-    let c = replied(2, 0, false, told(3), b);
-    let d = replied(2, 0, false, told(9), c);
+    )?;
+    let c = replied(out, 2, 0, false, told(3), b)?;
+    let d = replied(out, 2, 0, false, told(9), c)?;
     let second = of(2, value(4, 40), value(5, 50), Best::Nothing);
-    replied(2, 2, false, second, d);
-    conflicts(d, second);
-    d
+    replied(out, 2, 2, false, second, d)?;
+    conflicts(out, d, second)?;
+    Ok(d)
 }
 
 // A quorum of three: one waits, the next conflicts at its second key, and is told again.
-fn conflicts(r: Read, second: Tally) {
-    let a = replied(3, 2, false, second, r);
-    let b = replied(3, 0, false, told(2), a);
+fn conflicts(out: &mut impl Write, r: Read, second: Tally) -> io::Result<()> {
+    let a = replied(out, 3, 2, false, second, r)?;
+    let b = replied(out, 3, 0, false, told(2), a)?;
     replied(
+        out,
         3,
         0,
         false,
         of(2, Best::Slot(6), value(5, 50), Best::Nothing),
         b,
-    );
+    )?;
+    Ok(())
 }
 
 // From the leader: a longer list, a shorter one, and from a member that has answered.
-fn leads(r: Read) {
+fn leads(out: &mut impl Write, r: Read) -> io::Result<()> {
     let long = of(3, value(9, 90), value(8, 80), Best::Slot(7));
-    replied(2, 0, true, long, r);
+    replied(out, 2, 0, true, long, r)?;
     replied(
+        out,
         2,
         0,
         true,
         of(1, value(9, 90), Best::Nothing, Best::Nothing),
         r,
-    );
-    replied(2, 1, true, long, r);
+    )?;
+    replied(out, 2, 1, true, long, r)?;
+    Ok(())
 }
 
-pub(crate) fn run() {
-    tallies();
-    answers();
-    let two = few();
-    puts(two);
-    let nine = more(two);
-    let all = most(nine);
-    full(all);
-    unfit();
+pub(crate) fn run(out: &mut impl Write) -> io::Result<()> {
+    tallies(out)?;
+    answers(out)?;
+    let two = few(out)?;
+    puts(out, two)?;
+    let nine = more(out, two)?;
+    let all = most(out, nine)?;
+    full(out, all)?;
+    unfit(out)?;
     let o = no_reads().open_read(1, 2, [11, 12, 0, 0, 0, 0, 0, 0]);
     let open = o.reads;
-    let r = replies(open.reads[0]);
-    leads(r);
+    let r = replies(out, open.reads[0])?;
+    leads(out, r)
 }

@@ -1,84 +1,81 @@
 // Lines of numbers on standard output.
 use batch::{Batch, KeyTable};
+use std::io;
+use std::io::Write;
 use tally::{Best, Tally};
 
-pub(crate) fn label(name: &[u8]) {
-    io::write_all(libc::STDOUT_FILENO, name);
+pub(crate) fn label(out: &mut impl Write, name: &str) -> io::Result<()> {
+    out.write_all(name.as_bytes())
 }
 
-pub(crate) fn number(n: u64) {
-    io::write_all(libc::STDOUT_FILENO, b" ");
-    io::print_decimal(libc::STDOUT_FILENO, n);
+pub(crate) fn number(out: &mut impl Write, n: u64) -> io::Result<()> {
+    write!(out, " {n}")
 }
 
-pub(crate) fn end() {
-    io::write_all(libc::STDOUT_FILENO, b"\n");
+pub(crate) fn end(out: &mut impl Write) -> io::Result<()> {
+    out.write_all(b"\n")
 }
 
-pub(crate) fn flag(b: bool) {
-    if b {
-        number(1);
-    } else {
-        number(0);
-    }
+pub(crate) fn flag(out: &mut impl Write, b: bool) -> io::Result<()> {
+    if b { number(out, 1) } else { number(out, 0) }
 }
 
 // Tag, slot and value.
-pub(crate) fn best(b: Best) {
+pub(crate) fn best(out: &mut impl Write, b: Best) -> io::Result<()> {
     match b {
-        Best::Nothing => three(0, 0, 0),
-        Best::Slot(s) => three(1, s, 0),
-        Best::Value(h) => three(2, h.slot, h.value),
+        Best::Nothing => three(out, 0, 0, 0),
+        Best::Slot(s) => three(out, 1, s, 0),
+        Best::Value(h) => three(out, 2, h.slot, h.value),
     }
 }
 
-pub(crate) fn three(a: u64, b: u64, c: u64) {
-    number(a);
-    number(b);
-    number(c);
+pub(crate) fn three(out: &mut impl Write, a: u64, b: u64, c: u64) -> io::Result<()> {
+    number(out, a)?;
+    number(out, b)?;
+    number(out, c)
 }
 
-pub(crate) fn eight(keys: [u64; 8]) {
-    number(keys[0]);
-    number(keys[1]);
-    number(keys[2]);
-    number(keys[3]);
-    number(keys[4]);
-    number(keys[5]);
-    number(keys[6]);
-    number(keys[7]);
+pub(crate) fn eight(out: &mut impl Write, keys: [u64; 8]) -> io::Result<()> {
+    number(out, keys[0])?;
+    number(out, keys[1])?;
+    number(out, keys[2])?;
+    number(out, keys[3])?;
+    number(out, keys[4])?;
+    number(out, keys[5])?;
+    number(out, keys[6])?;
+    number(out, keys[7])
 }
 
-pub(crate) fn batch(b: Batch) {
+pub(crate) fn batch(out: &mut impl Write, b: Batch) -> io::Result<()> {
     let keys = b.keys;
-    number(b.id);
-    number(b.count as u64);
-    eight(keys);
+    number(out, b.id)?;
+    number(out, b.count as u64)?;
+    eight(out, keys)
 }
 
 // The count, and the first three keys with their slots.
-pub(crate) fn table(t: KeyTable) {
-    label(b"table");
-    number(t.count as u64);
-    number(t.keys[0]);
-    number(t.slots[0]);
-    number(t.keys[1]);
-    number(t.slots[1]);
-    number(t.keys[2]);
-    number(t.slots[2]);
-    end();
+pub(crate) fn table(out: &mut impl Write, t: KeyTable) -> io::Result<()> {
+    label(out, "table")?;
+    number(out, t.count as u64)?;
+    number(out, t.keys[0])?;
+    number(out, t.slots[0])?;
+    number(out, t.keys[1])?;
+    number(out, t.slots[1])?;
+    number(out, t.keys[2])?;
+    number(out, t.slots[2])?;
+    end(out)
 }
 
 // The count, and the first three keys' best answers.
-pub(crate) fn tally(t: Tally) {
+pub(crate) fn tally(out: &mut impl Write, t: Tally) -> io::Result<()> {
     let first = t.bests[0];
     let second = t.bests[1];
     let third = t.bests[2];
     let a = first.best;
     let b = second.best;
     let c = third.best;
-    number(t.count as u64);
-    best(a);
-    best(b);
-    best(c);
+    number(out, t.count as u64)?;
+    best(out, a)?;
+    best(out, b)?;
+    best(out, c)
 }

@@ -1,161 +1,163 @@
 // Sets, groups and ballots.
 use crate::say;
 use members::{NextBallot, Owner};
+use std::io;
+use std::io::Write;
 
-fn has(set: u64, member: u64) {
-    say::label(b"has");
-    say::number(set);
-    say::number(member);
-    say::flag(members::contains(set, member));
-    say::end();
+fn has(out: &mut impl Write, set: u64, member: u64) -> io::Result<()> {
+    say::label(out, "has")?;
+    say::number(out, set)?;
+    say::number(out, member)?;
+    say::flag(out, members::contains(set, member))?;
+    say::end(out)
 }
 
-fn with(set: u64, member: u64) {
-    say::label(b"with");
-    say::three(set, member, members::with(set, member));
-    say::end();
+fn with(out: &mut impl Write, set: u64, member: u64) -> io::Result<()> {
+    say::label(out, "with")?;
+    say::three(out, set, member, members::with(set, member))?;
+    say::end(out)
 }
 
-fn count(set: u64) {
-    say::label(b"count");
-    say::number(set);
-    say::number(members::count(set));
-    say::end();
+fn count(out: &mut impl Write, set: u64) -> io::Result<()> {
+    say::label(out, "count")?;
+    say::number(out, set)?;
+    say::number(out, members::count(set))?;
+    say::end(out)
 }
 
-fn within(set: u64, n: u64) {
-    say::label(b"within");
-    say::number(set);
-    say::number(n);
-    say::flag(members::within(set, n));
-    say::end();
+fn within(out: &mut impl Write, set: u64, n: u64) -> io::Result<()> {
+    say::label(out, "within")?;
+    say::number(out, set)?;
+    say::number(out, n)?;
+    say::flag(out, members::within(set, n))?;
+    say::end(out)
 }
 
-fn group(n: u64) {
-    say::label(b"group");
-    say::number(n);
-    say::flag(members::is_group_size(n));
-    say::number(members::quorum(n));
-    say::end();
+fn group(out: &mut impl Write, n: u64) -> io::Result<()> {
+    say::label(out, "group")?;
+    say::number(out, n)?;
+    say::flag(out, members::is_group_size(n))?;
+    say::number(out, members::quorum(n))?;
+    say::end(out)
 }
 
-fn owner(ballot: u64) {
-    say::label(b"owner");
-    say::number(ballot);
+fn owner(out: &mut impl Write, ballot: u64) -> io::Result<()> {
+    say::label(out, "owner")?;
+    say::number(out, ballot)?;
     match members::owner_of(ballot) {
         Owner::Nobody => {
-            say::number(0);
-            say::number(0);
+            say::number(out, 0)?;
+            say::number(out, 0)?;
         }
         Owner::Member(m) => {
-            say::number(1);
-            say::number(m);
+            say::number(out, 1)?;
+            say::number(out, m)?;
         }
     }
-    say::end();
+    say::end(out)
 }
 
-fn owns(ballot: u64, member: u64) {
-    say::label(b"owns");
-    say::number(ballot);
-    say::number(member);
-    say::flag(members::is_owner(ballot, member));
-    say::end();
+fn owns(out: &mut impl Write, ballot: u64, member: u64) -> io::Result<()> {
+    say::label(out, "owns")?;
+    say::number(out, ballot)?;
+    say::number(out, member)?;
+    say::flag(out, members::is_owner(ballot, member))?;
+    say::end(out)
 }
 
-fn next(max: u64, id: u64) {
-    say::label(b"next");
-    say::number(max);
-    say::number(id);
+fn next(out: &mut impl Write, max: u64, id: u64) -> io::Result<()> {
+    say::label(out, "next")?;
+    say::number(out, max)?;
+    say::number(out, id)?;
     match members::next_ballot(max, id) {
         NextBallot::Ballot(b) => {
-            say::number(0);
-            say::number(b);
+            say::number(out, 0)?;
+            say::number(out, b)?;
         }
         NextBallot::Spent => {
-            say::number(8);
-            say::number(0);
+            say::number(out, 8)?;
+            say::number(out, 0)?;
         }
     }
-    say::end();
+    say::end(out)
 }
 
-fn sets() {
-    has(5, 0);
-    has(5, 1);
-    has(5, 2);
-    has(256, 8);
-    has(255, 8);
-    has(512, 9);
-    with(0, 0);
-    with(5, 1);
-    with(5, 2);
-    with(255, 8);
-    with(0, 9);
-    with(512, 0);
+fn sets(out: &mut impl Write) -> io::Result<()> {
+    has(out, 5, 0)?;
+    has(out, 5, 1)?;
+    has(out, 5, 2)?;
+    has(out, 256, 8)?;
+    has(out, 255, 8)?;
+    has(out, 512, 9)?;
+    with(out, 0, 0)?;
+    with(out, 5, 1)?;
+    with(out, 5, 2)?;
+    with(out, 255, 8)?;
+    with(out, 0, 9)?;
+    with(out, 512, 0)
 }
 
-fn counts() {
-    count(0);
-    count(1);
-    count(5);
-    count(256);
-    count(511);
-    count(512);
-    within(0, 0);
-    within(1, 0);
-    within(7, 3);
-    within(8, 3);
-    within(511, 9);
-    within(512, 9);
-    within(18446744073709551615, 63);
-    within(18446744073709551615, 64);
+fn counts(out: &mut impl Write) -> io::Result<()> {
+    count(out, 0)?;
+    count(out, 1)?;
+    count(out, 5)?;
+    count(out, 256)?;
+    count(out, 511)?;
+    count(out, 512)?;
+    within(out, 0, 0)?;
+    within(out, 1, 0)?;
+    within(out, 7, 3)?;
+    within(out, 8, 3)?;
+    within(out, 511, 9)?;
+    within(out, 512, 9)?;
+    within(out, 18446744073709551615, 63)?;
+    within(out, 18446744073709551615, 64)
 }
 
-fn groups() {
-    group(0);
-    group(1);
-    group(2);
-    group(3);
-    group(4);
-    group(5);
-    group(6);
-    group(7);
-    group(8);
-    group(9);
-    group(10);
+fn groups(out: &mut impl Write) -> io::Result<()> {
+    group(out, 0)?;
+    group(out, 1)?;
+    group(out, 2)?;
+    group(out, 3)?;
+    group(out, 4)?;
+    group(out, 5)?;
+    group(out, 6)?;
+    group(out, 7)?;
+    group(out, 8)?;
+    group(out, 9)?;
+    group(out, 10)
 }
 
-fn ballots() {
-    owner(0);
-    owner(256);
-    owner(257);
-    owner(511);
-    owner(18446744073709551615);
-    owns(256, 0);
-    owns(257, 0);
-    owns(257, 1);
-    owns(511, 254);
-    owns(256, 255);
+fn ballots(out: &mut impl Write) -> io::Result<()> {
+    owner(out, 0)?;
+    owner(out, 256)?;
+    owner(out, 257)?;
+    owner(out, 511)?;
+    owner(out, 18446744073709551615)?;
+    owns(out, 256, 0)?;
+    owns(out, 257, 0)?;
+    owns(out, 257, 1)?;
+    owns(out, 511, 254)?;
+    owns(out, 256, 255)
 }
 
 // The round 2^56 - 1 begins at 18446744073709551360, and is the last.
-fn rounds() {
-    next(0, 0);
-    next(257, 2);
-    next(511, 0);
-    next(512, 8);
-    next(18446744073709551359, 8);
-    next(18446744073709551359, 254);
-    next(18446744073709551360, 8);
-    next(18446744073709551615, 0);
-    next(0, 255);
+fn rounds(out: &mut impl Write) -> io::Result<()> {
+    next(out, 0, 0)?;
+    next(out, 257, 2)?;
+    next(out, 511, 0)?;
+    next(out, 512, 8)?;
+    next(out, 18446744073709551359, 8)?;
+    next(out, 18446744073709551359, 254)?;
+    next(out, 18446744073709551360, 8)?;
+    next(out, 18446744073709551615, 0)?;
+    next(out, 0, 255)
 }
 
-pub(crate) fn run() {
-    sets();
-    counts();
-    groups();
-    ballots();
-    rounds();
+pub(crate) fn run(out: &mut impl Write) -> io::Result<()> {
+    sets(out)?;
+    counts(out)?;
+    groups(out)?;
+    ballots(out)?;
+    rounds(out)
 }
