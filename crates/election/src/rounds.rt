@@ -2,6 +2,8 @@
 use crate::seat::Seat;
 use batch::Batch;
 use replica::Entry;
+use std::io;
+use std::io::Write;
 
 #[derive(Clone, Copy)]
 pub struct Group {
@@ -15,125 +17,172 @@ fn of(a: Seat, b: Seat, c: Seat) -> Group {
 }
 
 // A member finishes the commits of two slots.
-fn commits(s: Seat, room: &mut [u64], first: u64, second: u64) -> Seat {
-    let t = s.logged(room, Entry::CommitSlot, first, 257, 200);
-    t.logged(room, Entry::CommitSlot, second, 257, 240)
+fn commits(
+    out: &mut impl Write,
+    s: Seat,
+    room: &mut [u64],
+    first: u64,
+    second: u64,
+) -> io::Result<Seat> {
+    let t = s.logged(out, room, Entry::CommitSlot, first, 257, 200)?;
+    t.logged(out, room, Entry::CommitSlot, second, 257, 240)
 }
 
 impl Group {
     // Member 0 tells its commit bar at once.
-    pub(crate) fn new() -> Group {
-        let a = Seat::new(0, 1);
-        let b = Seat::new(1, 0);
-        let c = Seat::new(2, 0);
-        of(a, b, c)
+    pub(crate) fn new(out: &mut impl Write) -> io::Result<Group> {
+        let a = Seat::new(out, 0, 1)?;
+        let b = Seat::new(out, 1, 0)?;
+        let c = Seat::new(out, 2, 0)?;
+        Ok(of(a, b, c))
     }
 
     // A timeout at member 0, and its Prepare at the others.
-    pub(crate) fn step_up(self, room: &mut [u64]) -> Group {
+    pub(crate) fn step_up(self, out: &mut impl Write, room: &mut [u64]) -> io::Result<Group> {
         let a = self.a;
         let b = self.b;
         let c = self.c;
-        let a1 = a.timeout(room, 0);
-        let b1 = b.prepare(room, 0, 0, 257);
-        let c1 = c.prepare(room, 0, 0, 257);
-        of(a1, b1, c1)
+        let a1 = a.timeout(out, room, 0)?;
+        let b1 = b.prepare(out, room, 0, 0, 257)?;
+        let c1 = c.prepare(out, room, 0, 0, 257)?;
+        Ok(of(a1, b1, c1))
     }
 
     // The same entry is finished at all three.
-    pub(crate) fn logged(self, room: &mut [u64], entry: Entry, slot: u64, size: u64) -> Group {
+    pub(crate) fn logged(
+        self,
+        out: &mut impl Write,
+        room: &mut [u64],
+        entry: Entry,
+        slot: u64,
+        size: u64,
+    ) -> io::Result<Group> {
         let a = self.a;
         let b = self.b;
         let c = self.c;
-        let a1 = a.logged(room, entry, slot, 257, size);
-        let b1 = b.logged(room, entry, slot, 257, size);
-        let c1 = c.logged(room, entry, slot, 257, size);
-        of(a1, b1, c1)
+        let a1 = a.logged(out, room, entry, slot, 257, size)?;
+        let b1 = b.logged(out, room, entry, slot, 257, size)?;
+        let c1 = c.logged(out, room, entry, slot, 257, size)?;
+        Ok(of(a1, b1, c1))
     }
 
     // Both PrepareReplies; with its own entry the first makes the quorum.
-    pub(crate) fn promised(self, room: &mut [u64]) -> Group {
+    pub(crate) fn promised(self, out: &mut impl Write, room: &mut [u64]) -> io::Result<Group> {
         let a = self.a;
         let b = self.b;
         let c = self.c;
-        let a1 = a.promised(room, 1, 0, 257);
-        let a2 = a1.promised(room, 2, 0, 257);
-        of(a2, b, c)
+        let a1 = a.promised(out, room, 1, 0, 257)?;
+        let a2 = a1.promised(out, room, 2, 0, 257)?;
+        Ok(of(a2, b, c))
     }
 
-    pub(crate) fn offer(self, room: &mut [u64], batch: Batch) -> Group {
+    pub(crate) fn offer(
+        self,
+        out: &mut impl Write,
+        room: &mut [u64],
+        batch: Batch,
+    ) -> io::Result<Group> {
         let a = self.a;
         let b = self.b;
         let c = self.c;
-        let a1 = a.offer(room, batch);
-        of(a1, b, c)
+        let a1 = a.offer(out, room, batch)?;
+        Ok(of(a1, b, c))
     }
 
-    pub(crate) fn accept(self, room: &mut [u64], slot: u64, batch: Batch) -> Group {
+    pub(crate) fn accept(
+        self,
+        out: &mut impl Write,
+        room: &mut [u64],
+        slot: u64,
+        batch: Batch,
+    ) -> io::Result<Group> {
         let a = self.a;
         let b = self.b;
         let c = self.c;
-        let b1 = b.accept(room, 0, slot, 257, batch);
-        let c1 = c.accept(room, 0, slot, 257, batch);
-        of(a, b1, c1)
+        let b1 = b.accept(out, room, 0, slot, 257, batch)?;
+        let c1 = c.accept(out, room, 0, slot, 257, batch)?;
+        Ok(of(a, b1, c1))
     }
 
     // Both AcceptReplies; with its own entry the first commits.
-    pub(crate) fn accepted(self, room: &mut [u64], slot: u64, first: u64, second: u64) -> Group {
+    pub(crate) fn accepted(
+        self,
+        out: &mut impl Write,
+        room: &mut [u64],
+        slot: u64,
+        first: u64,
+        second: u64,
+    ) -> io::Result<Group> {
         let a = self.a;
         let b = self.b;
         let c = self.c;
-        let a1 = a.accepted(room, first, slot, 257);
-        let a2 = a1.accepted(room, second, slot, 257);
-        of(a2, b, c)
+        let a1 = a.accepted(out, room, first, slot, 257)?;
+        let a2 = a1.accepted(out, room, second, slot, 257)?;
+        Ok(of(a2, b, c))
     }
 
     // Member 0 finishes its commit.
-    pub(crate) fn committed(self, room: &mut [u64], slot: u64, size: u64) -> Group {
+    pub(crate) fn committed(
+        self,
+        out: &mut impl Write,
+        room: &mut [u64],
+        slot: u64,
+        size: u64,
+    ) -> io::Result<Group> {
         let a = self.a;
         let b = self.b;
         let c = self.c;
-        let a1 = a.logged(room, Entry::CommitSlot, slot, 257, size);
-        of(a1, b, c)
+        let a1 = a.logged(out, room, Entry::CommitSlot, slot, 257, size)?;
+        Ok(of(a1, b, c))
     }
 
-    pub(crate) fn notice(self, room: &mut [u64], bar: u64) -> Group {
+    pub(crate) fn notice(
+        self,
+        out: &mut impl Write,
+        room: &mut [u64],
+        bar: u64,
+    ) -> io::Result<Group> {
         let a = self.a;
         let b = self.b;
         let c = self.c;
-        let b1 = b.notice(room, 0, 257, bar);
-        let c1 = c.notice(room, 0, 257, bar);
-        of(a, b1, c1)
+        let b1 = b.notice(out, room, 0, 257, bar)?;
+        let c1 = c.notice(out, room, 0, 257, bar)?;
+        Ok(of(a, b1, c1))
     }
 
     // The others finish the commits of both slots, member 2 in the other order.
-    pub(crate) fn followed(self, room: &mut [u64]) -> Group {
+    pub(crate) fn followed(self, out: &mut impl Write, room: &mut [u64]) -> io::Result<Group> {
         let a = self.a;
         let b = self.b;
         let c = self.c;
-        let b1 = commits(b, room, 0, 1);
-        let c1 = commits(c, room, 1, 0);
-        of(a, b1, c1)
+        let b1 = commits(out, b, room, 0, 1)?;
+        let c1 = commits(out, c, room, 1, 0)?;
+        Ok(of(a, b1, c1))
     }
 
-    pub(crate) fn executed(self, room: &mut [u64], slot: u64) -> Group {
+    pub(crate) fn executed(
+        self,
+        out: &mut impl Write,
+        room: &mut [u64],
+        slot: u64,
+    ) -> io::Result<Group> {
         let a = self.a;
         let b = self.b;
         let c = self.c;
-        let a1 = a.executed(room, slot);
-        let b1 = b.executed(room, slot);
-        let c1 = c.executed(room, slot);
-        of(a1, b1, c1)
+        let a1 = a.executed(out, room, slot)?;
+        let b1 = b.executed(out, room, slot)?;
+        let c1 = c.executed(out, room, slot)?;
+        Ok(of(a1, b1, c1))
     }
 
     // A PrepareReply that comes late, a Prepare from self, and one for a slot past the window.
-    pub(crate) fn late(self, room: &mut [u64]) -> Group {
+    pub(crate) fn late(self, out: &mut impl Write, room: &mut [u64]) -> io::Result<Group> {
         let a = self.a;
         let b = self.b;
         let c = self.c;
-        let a1 = a.promised(room, 2, 0, 257);
-        let a2 = a1.prepare(room, 0, 0, 257);
-        let b1 = b.prepare(room, 0, 64, 257);
-        of(a2, b1, c)
+        let a1 = a.promised(out, room, 2, 0, 257)?;
+        let a2 = a1.prepare(out, room, 0, 0, 257)?;
+        let b1 = b.prepare(out, room, 0, 64, 257)?;
+        Ok(of(a2, b1, c))
     }
 }
