@@ -6,7 +6,7 @@ use Rattle.std.proofs.Math.Seq.{paste}
 use Rattle.base.specs.Pick.{pick}
 use Rattle.feed.specs.declared.Input.{Input}
 
--- a read behind the first `have` bytes: these stay, and so does the length; which bytes come, how many, and whether it fails can't be said
+-- a read behind the first `have` bytes: these stay, and so does the length; how many bytes come, and whether it fails, can't be said
 pub record ReadBehind (bytes : List ℕ) (have : ℕ) (r : Input) (after : List ℕ) : Type 0 where
   pub front : take have after ≡ take have bytes
   pub long : length after ≡ length bytes
@@ -17,8 +17,8 @@ pub record ReadBehind (bytes : List ℕ) (have : ℕ) (r : Input) (after : List 
   -- where there are not so many bytes nothing is read
   pub refused : length bytes < have → (r ≡ record { have = 0; ended = true; failed = false }) × (after ≡ bytes)
 
--- the same read at a reader that had the bytes `old` left, and then `new`, where these are known: the bytes that came are the next of them, a read
--- that fails takes none, and the end is the end of them, unless there was no room
+-- the same read at a reader that had the bytes `old` left and then `new`, where these are known: what came is the next of them, a read that fails
+-- takes none, and where there was room for more the end is their end
 pub record ReadNext (old new : Option (List ℕ)) (have : ℕ) (r : Input) (after : List ℕ) : Type 0 where
   pub came : r.failed ≡ false → Consumes old new (slice_range after have r.have)
   pub kept : r.failed ≡ true → Keeps old new
