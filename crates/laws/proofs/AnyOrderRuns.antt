@@ -1,31 +1,21 @@
 -- The rest of specs/AnyOrderRuns.antt: what stands on a theorem that a must-fail edit makes false.
-use Rattle.std.specs.Prelude.{◌≡◌, refl, Bool, true, ◌&&◌, List, [], ◌∷◌, ◌++◌, ℕ, ◌≤◌, ◌<◌, T, eqb, replicate}
+use Rattle.std.specs.Prelude.{◌≡◌, refl, [], ◌∷◌, ℕ}
 use mathlib.Core.List.Memᴰ
-use Rattle.std.proofs.Common.{le_refl, arith}
-use Rattle.base.specs.Pick.{pick}
-use Rattle.base.specs.Among.{◌∈◌, SameMembers, All, All-in}
+use Rattle.std.proofs.Common.{le_refl}
+use Rattle.base.specs.Among.{◌∈◌, All-in}
 use Rattle.base.specs.Scan.{scan}
 use Rattle.members.specs.Sets.{has, insert, count, count_in}
-use Rattle.batch.specs.Batches.{same_list}
-use Rattle.tally.specs.declared.Best.{Best}
-use Rattle.tally.specs.declared.Best.TheVariants.{Nothing, Slot as SlotAlone}
-use Rattle.tally.specs.declared.Tally.{Tally}
-use Rattle.tally.specs.Merge.{no_best, merge}
-use Rattle.tally.specs.Open.{find_read, open_read, close_read, put_read, reply_to, fit_reads}
-use Rattle.tally.proofs.AnyOrder.{answered_agreeing}
-use Rattle.actions.specs.Actions.{flat}
-use Rattle.slots.specs.Slots.{fit_slot}
-use Rattle.decide.specs.Scalars.{quorum, fit_scalars}
+use Rattle.tally.specs.Merge.{merge}
+use Rattle.tally.specs.Open.{find_read, open_read, put_read, reply_to, fit_reads}
+use Rattle.decide.specs.Scalars.{fit_scalars}
 use Rattle.window.specs.Window.{first_open, fit_slots}
-use Rattle.replica.specs.declared.Replica.{Replica}
 use Rattle.replica.specs.Record.{new_replica}
 use Rattle.replica.specs.Fit.{fit}
 use Rattle.replica.specs.Quorumread.{open_read_step, replied_step, read_reply_step}
-use Rattle.replica.specs.Step.{Call, call_prepare, call_open_read, call_read_reply, step}
-use Rattle.replica.specs.Cases.{open_reads, look, Run, run, right_runs, right_run, right_turn, asked, told, fresh, held, answers, of_one, with_value}
+use Rattle.replica.specs.Step.{step}
 use Rattle.laws.specs.OpenReads.{Waiting-new}
 use Rattle.laws.proofs.OpenReads.{Waiting-stays}
-use Rattle.laws.specs.AnyOrder.{read_of, ReadOpen, AgreeingReplies, acknowledged_with, member_reply, replied, replied_acts, replied_answers, SameEnd, Aside, CallsBetween, no_more, aside, from_member}
+use Rattle.laws.specs.AnyOrder.{read_of, ReadOpen, member_reply, replied, SameEnd}
 use Rattle.laws.specs.InARow.{replies_within}
 use Rattle.laws.proofs.InARow.{in_any_order}
 use Rattle.laws.proofs.BetweenReplies.{same_read, same_answers}

@@ -1,5 +1,5 @@
 -- The rest of specs/BetweenReplies.antt: what stands on a theorem that a must-fail edit makes false.
-use Rattle.std.specs.Prelude.{◌≡◌, refl, Bool, true, false, not, List, [], ◌∷◌, ◌++◌, ℕ, ◌-◌, ◌≤◌, ◌<◌, ltb, leb, get_or}
+use Rattle.std.specs.Prelude.{◌≡◌, refl, Bool, false, not, List, [], ◌∷◌, ◌++◌, ℕ, ◌-◌, ◌≤◌, ◌<◌, ltb, leb, get_or}
 use Rattle.std.proofs.Common.{sym, ap, ◌∙◌, ⊎_elim, arith}
 use mathlib.Core.List.Memᴰ
 use Rattle.std.proofs.Math.Seq.{get_or-set_other}
@@ -16,21 +16,20 @@ use Rattle.tally.specs.declared.Reads.{Reads}
 use Rattle.tally.specs.declared.Opened.{Opened}
 use Rattle.tally.specs.declared.Replied.{Replied}
 use Rattle.tally.specs.Open.{no_read, close_read, reply_to, stays_open}
-use Rattle.tally.specs.ReadLaws.{id_at, find_id, find_only, open_cases, close_others, close_last, close_count, put_count, put_others, put_here}
+use Rattle.tally.specs.ReadLaws.{id_at, find_id, open_cases, close_others, close_last, close_count, put_count, put_others}
 use Rattle.tally.specs.ReadOrder.{read_after, Agreed, joined_by}
 use Rattle.tally.proofs.ReadOrder.{Agreed-cases, Agreed-append, after_append, after_collected, read_any_order}
 use Rattle.decide.specs.Scalars.{is_member, quorum}
 use Rattle.replica.specs.declared.Replica.{Replica}
 use Rattle.replica.specs.Record.{Outcome}
-use Rattle.replica.specs.Fit.{usable, ready}
+use Rattle.replica.specs.Fit.{ready}
 use Rattle.replica.specs.AdmitLaws.{ready_last, ready_zero, member_some}
 use Rattle.replica.specs.ReadCallLaws.{reply_known}
 use Rattle.replica.specs.Quorumread.{with_reads, open_read_step, replied_step, read_reply_step}
 use Rattle.replica.specs.Step.{Call, step}
 use Rattle.laws.specs.OfFit.{fit_facts}
 use Rattle.laws.specs.WaysAdded.{read_place, read_at, stayed}
-use Rattle.laws.specs.Good.{Sized}
-use Rattle.laws.specs.OpenReads.{Call-cases, other_calls, Waiting}
+use Rattle.laws.specs.OpenReads.{Call-cases, other_calls}
 use Rattle.laws.proofs.OpenReads.{Waiting-stays}
 use Rattle.laws.specs.AnyOrder.{read_of, ReadOpen, AgreeingReplies, member_reply, Aside, CallsBetween, no_more, aside, from_member, acknowledged_with, answered_read, KnowsHeard, SameRead, AnsweredZero, all_answers, AnswersHeard, SameAnswers}
 use Rattle.laws.specs.InARow.{replied_open, replied_shut, Agreed-of, replies_within, acknowledged_same}

@@ -1,12 +1,12 @@
 -- The rest of specs/InARow.antt: what stands on a theorem that a must-fail edit makes false.
-use Rattle.std.specs.Prelude.{◌≡◌, refl, true, false, List, [], ◌∷◌, ◌++◌, ◌⊎◌, ℕ, ◌-◌, ◌≤◌, ◌<◌, leb, length}
+use Rattle.std.specs.Prelude.{◌≡◌, refl, true, false, List, [], ◌∷◌, ◌++◌, ℕ, ◌≤◌, ◌<◌, leb, length}
 use Rattle.std.proofs.Common.{sym, ap, subst, ◌∙◌, append-nil, ⊎_elim, arith, leb-true, leb-false}
 use mathlib.Core.List.Memᴰ
-use Rattle.base.specs.Pick.{pick_cases, decide, clash, and_both}
-use Rattle.base.specs.Among.{◌∈◌, SameMembers, All}
+use Rattle.base.specs.Pick.{pick_cases, decide, clash}
+use Rattle.base.specs.Among.{◌∈◌, All}
 use Rattle.members.specs.Sets.{count_in}
-use Rattle.members.specs.Laws.{group_bounds, within_small, insert_again}
-use Rattle.members.specs.Many.{insert_all, insert_all_same}
+use Rattle.members.specs.Laws.{insert_again}
+use Rattle.members.specs.Many.{insert_all}
 use Rattle.tally.specs.declared.Tally.{Tally}
 use Rattle.tally.specs.declared.Read.{Read}
 use Rattle.tally.specs.declared.Reads.{Reads}
@@ -18,19 +18,18 @@ use Rattle.tally.proofs.ReadOrder.{Agreed-cases, after_full, read_any_order}
 use Rattle.actions.specs.Actions.{Act}
 use Rattle.decide.specs.Scalars.{quorum}
 use Rattle.replica.specs.declared.Replica.{Replica}
-use Rattle.replica.specs.Record.{Outcome, kept, summed}
+use Rattle.replica.specs.Record.{Outcome, summed}
 use Rattle.replica.specs.Fit.{usable, ready}
 use Rattle.replica.specs.AdmitLaws.{ready_last, ready_zero, ready_facts, member_some}
-use Rattle.replica.specs.ActingLaws.{summed-kept}
 use Rattle.replica.specs.Step.{step}
 use Rattle.replica.specs.Quorumread.{with_reads, replied_step}
-use Rattle.replica.specs.ReadCallLaws.{replied_stays, replied_summed, reply_known, reply_unknown}
+use Rattle.replica.specs.ReadCallLaws.{replied_summed, reply_known}
 use Rattle.laws.specs.OfFit.{fit_facts}
-use Rattle.laws.specs.WaysAdded.{read_place, closed, stayed}
+use Rattle.laws.specs.WaysAdded.{read_place}
 use Rattle.laws.specs.AnyOrder.{read_of, ReadOpen, AgreeingReplies, acknowledged_with, member_reply, replied, replied_acts, replied_answers, SameInUse, InAnyOrder, all_answers}
 use Rattle.laws.specs.Summaries.{usable-fit}
 use Rattle.laws.proofs.Summaries.{usable_stays}
-use Rattle.laws.specs.InARow.{Agreed-of, Ignored, acknowledged_same, ignored, replied_open, replied_shut, replies_within, same_refl, same_sym, same_trans}
+use Rattle.laws.specs.InARow.{Agreed-of, acknowledged_same, ignored, replied_open, replied_shut, replies_within, same_refl, same_sym, same_trans}
 
 -- a replica with a read open at place p, and the same with that read as d
 module _ (room id : ℕ) (said : ℕ → Tally) (r : Replica) (p : ℕ) where

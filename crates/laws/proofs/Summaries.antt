@@ -1,21 +1,15 @@
 -- The rest of specs/Summaries.antt: what stands on a theorem that a must-fail edit makes false.
-use Rattle.std.specs.Prelude.{◌≡◌, refl, Bool, true, false, ◌&&◌, ◌⊎◌, ℕ, ◌≤◌, ◌<◌, leb, eqb}
-use Rattle.std.proofs.Common.{sym, ap, ◌∙◌, inl, inr, arith, eq-eqb, eqb-true, leb-true}
-use Rattle.base.specs.Pick.{pick, pick_both, and_left, and_right, and_both, and_make, decide, same?}
-use Rattle.base.specs.Scan.{scan, scan_passed}
-use Rattle.decide.specs.Scalars.{may_be}
-use Rattle.window.specs.Window.{slot_at, first_open}
+use Rattle.std.specs.Prelude.{◌≡◌, Bool, true, false, ◌&&◌, ◌⊎◌, ℕ}
+use Rattle.std.proofs.Common.{sym, ap, ◌∙◌, inl, inr, eq-eqb}
+use Rattle.base.specs.Pick.{pick, and_left, and_right, and_make, decide, same?}
 use Rattle.window.specs.Summary.{walk}
-use Rattle.window.specs.SummaryLaws.{Sums, Sums-walk, walk-Sums}
+use Rattle.window.specs.SummaryLaws.{Sums-walk, walk-Sums}
 use Rattle.replica.specs.declared.Replica.{Replica}
-use Rattle.replica.specs.declared.Made.{Made}
-use Rattle.replica.specs.Record.{Outcome, new_replica, place}
+use Rattle.replica.specs.Record.{Outcome}
 use Rattle.replica.specs.Fit.{fit, roomy, sums, usable, ready}
-use Rattle.replica.specs.Durability.{pass_stop}
 use Rattle.replica.specs.AdmitLaws.{ready_facts}
 use Rattle.replica.specs.ActingLaws.{Summed}
-use Rattle.replica.specs.Step.{Call, call_prepare, call_prepare_reply, call_accept, call_accept_reply, call_commit_notice, call_timeout, call_logged, call_offer, call_executed, call_open_read, call_read_reply, does, step}
-use Rattle.laws.specs.Conflict.{Conflicts}
+use Rattle.replica.specs.Step.{Call, does, step}
 use Rattle.laws.specs.Room.{step-unready}
 use Rattle.laws.specs.Theorems.{fit_stays}
 use Rattle.laws.proofs.Theorems.{refusals_keep, conflict}

@@ -1,24 +1,17 @@
 -- The rest of specs/Theorems.antt: what stands on a theorem that a must-fail edit makes false.
-use Rattle.std.specs.Prelude.{◌≡◌, refl, Bool, true, false, not, ◌&&◌, [], ◌⊎◌, ℕ, ◌/◌, ◌%◌, ◌≤◌, ◌<◌, leb, eqb, length}
-use Rattle.std.proofs.Common.{sym, ap, subst, ◌∙◌, inl, inr, ⊎_elim, arith, le-leb, eqb-true}
-use Rattle.std.proofs.Math.Bool.{and-false}
-use Rattle.std.proofs.lemmas.Bool.{lt-leb, not-true}
-use Rattle.base.specs.Pick.{pick_both, decide, and_left, and_right, or_cases, clash, tests}
-use Rattle.decide.specs.Scalars.{strict, may_be, fit_scalars}
+use Rattle.std.specs.Prelude.{◌≡◌, Bool, true, false, not, ◌&&◌, [], ◌⊎◌, ℕ, ◌/◌, ◌%◌, ◌≤◌, leb, eqb, length}
+use Rattle.std.proofs.Common.{ap, inl, inr, ⊎_elim, arith, eqb-true}
+use Rattle.std.proofs.lemmas.Bool.{not-true}
+use Rattle.base.specs.Pick.{and_left, and_right, or_cases, clash, tests}
+use Rattle.decide.specs.Scalars.{strict}
 use Rattle.window.specs.Places.{size}
 use Rattle.replica.specs.declared.Replica.{Replica}
-use Rattle.replica.specs.declared.Made.{Made}
-use Rattle.replica.specs.Record.{Outcome, kept, zero_replica, new_replica}
-use Rattle.replica.specs.Fit.{fit, sums}
+use Rattle.replica.specs.Fit.{sums}
 use Rattle.replica.specs.Step.{Call, step}
 use Rattle.laws.specs.WaysMessages.{keeping}
 use Rattle.laws.specs.Sound.{answering}
 use Rattle.laws.proofs.Sound.{step-Sound}
 use Rattle.laws.specs.Conflict.{Conflicts}
-use Rattle.laws.specs.Room.{step-unready, step_room}
-use Rattle.laws.specs.OfFit.{fresh_fits, fit_facts, facts_fit}
-use Rattle.laws.specs.Good.{Sized, Fits-Good, Good-Fits, Good-Sized, fresh-Sized, zero_sized}
-use Rattle.laws.specs.GoodLogged.{step-Good}
 
 -- 01: "all but 0 give no actions"
 pub refusals_silent : (r : Replica) (n : ℕ) (c : Call) → ((step r n c).answer ≡ 0 → ⊥) → (step r n c).actions ≡ []

@@ -24,10 +24,7 @@ use Rattle.replica.specs.Fit.{fit}
 use Rattle.replica.specs.Quorumread.{open_read_step, replied_step, read_reply_step}
 use Rattle.replica.specs.Step.{Call, call_prepare, call_open_read, call_read_reply, step}
 use Rattle.replica.specs.Cases.{open_reads, look, Run, run, right_runs, right_run, right_turn, asked, told, fresh, held, answers, of_one, with_value}
-use Rattle.laws.specs.OpenReads.{Waiting-new}
-use Rattle.laws.specs.AnyOrder.{read_of, ReadOpen, AgreeingReplies, acknowledged_with, member_reply, replied, replied_acts, replied_answers, SameEnd, Aside, CallsBetween, no_more, aside, from_member}
-use Rattle.laws.specs.InARow.{replies_within}
-use Rattle.laws.specs.Theorems.{new_sized, sizes_stay}
+use Rattle.laws.specs.AnyOrder.{read_of, AgreeingReplies, acknowledged_with, member_reply, replied, replied_acts, replied_answers, Aside, CallsBetween, no_more, aside, from_member}
 
 -- member 2 of a group of five opens read 5, for four keys
 abbrev pub four_keys : Call

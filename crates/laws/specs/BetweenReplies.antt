@@ -1,40 +1,23 @@
 -- Replies to an open read with any other calls between them: whatever comes, the read knows what the members heard so far have told it. The statements are
 -- `KnowsHeard`, `SameRead`, `AnsweredZero`, `AnswersHeard` and `SameAnswers` (AnyOrder).
-use Rattle.std.specs.Prelude.{◌≡◌, refl, Bool, true, false, not, List, [], ◌∷◌, ◌++◌, ℕ, ◌-◌, ◌≤◌, ◌<◌, ltb, leb, get_or}
-use Rattle.std.proofs.Common.{sym, ap, ◌∙◌, ⊎_elim, arith}
-use mathlib.Core.List.Memᴰ
-use Rattle.std.proofs.Math.Seq.{get_or-set_other}
-use borrow.Author.Tests.{le-leb, leb-true, leb-false}
-use Rattle.base.specs.Pick.{pick_both, pick_cases, same?}
-use Rattle.base.specs.Among.{◌∈◌}
-use Rattle.members.specs.Sets.{insert, count_in}
-use Rattle.members.specs.Groups.{quorum_of}
-use Rattle.members.specs.Laws.{insert_again}
-use Rattle.members.specs.Many.{insert_all, insert_all-append, insert_all_count}
+use Rattle.std.specs.Prelude.{◌≡◌, refl, true, false, ℕ, ◌≤◌, ◌<◌}
+use Rattle.std.proofs.Common.{sym, ap, ◌∙◌, arith}
 use Rattle.tally.specs.declared.Tally.{Tally}
 use Rattle.tally.specs.declared.Read.{Read}
-use Rattle.tally.specs.declared.Reads.{Reads}
-use Rattle.tally.specs.declared.Opened.{Opened}
-use Rattle.tally.specs.declared.Replied.{Replied}
-use Rattle.tally.specs.Open.{no_read, close_read, reply_to, stays_open}
-use Rattle.tally.specs.ReadLaws.{id_at, find_id, find_only, open_cases, close_others, close_last, close_count, put_count, put_others, put_here}
-use Rattle.tally.specs.ReadOrder.{read_after, Agreed, joined_by}
-use Rattle.tally.proofs.ReadOrder.{Agreed-cases, Agreed-append, after_append, after_collected, read_any_order}
-use Rattle.decide.specs.Scalars.{is_member, quorum}
+use Rattle.tally.specs.Open.{reply_to}
+use Rattle.tally.specs.ReadLaws.{find_only, put_count, put_here}
+use Rattle.decide.specs.Scalars.{quorum}
 use Rattle.replica.specs.declared.Replica.{Replica}
-use Rattle.replica.specs.Record.{Outcome}
-use Rattle.replica.specs.Fit.{usable, ready}
+use Rattle.replica.specs.Fit.{usable}
 use Rattle.replica.specs.AdmitLaws.{ready_last, ready_zero, member_some}
 use Rattle.replica.specs.ReadCallLaws.{reply_known}
-use Rattle.replica.specs.Quorumread.{with_reads, open_read_step, replied_step, read_reply_step}
-use Rattle.replica.specs.Step.{Call, step}
+use Rattle.replica.specs.Quorumread.{replied_step}
+use Rattle.replica.specs.Step.{step}
 use Rattle.laws.specs.OfFit.{fit_facts}
 use Rattle.laws.specs.WaysAdded.{read_place, read_at, stayed}
 use Rattle.laws.specs.Good.{Sized}
-use Rattle.laws.specs.OpenReads.{Call-cases, other_calls, Waiting}
-use Rattle.laws.specs.AnyOrder.{read_of, ReadOpen, AgreeingReplies, member_reply, Aside, CallsBetween, no_more, aside, from_member, acknowledged_with, answered_read, KnowsHeard, SameRead, AnsweredZero, all_answers, AnswersHeard, SameAnswers}
-use Rattle.laws.specs.InARow.{replied_open, replied_shut, Agreed-of, replies_within, acknowledged_same}
-use Rattle.laws.specs.Theorems.{sizes_stay}
+use Rattle.laws.specs.OpenReads.{Waiting}
+use Rattle.laws.specs.AnyOrder.{read_of, ReadOpen, member_reply}
 use Rattle.laws.specs.Summaries.{usable-fit}
 
 -- ANOTHER CALL

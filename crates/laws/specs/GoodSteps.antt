@@ -31,7 +31,7 @@ use Rattle.laws.specs.Leaves.{done}
 use Rattle.laws.specs.WaysMessages.{Keeps, KeepsLow, prepare_window, prepare_end, prepare_step_ways, accept_window, accept_step_ways, Replies, replied_slot, accept_reply_step_ways}
 use Rattle.laws.specs.WaysReply.{Answers, grown_window, reply_window, reply_slot, adopts_vote, heard_slot, heard_window, trigger_slot, counted_window, tabled_sc, reply_on_ways, prepare_reply_step_ways, reply_place}
 use Rattle.laws.specs.WaysLeadership.{lead_window, lead_from, lead_trigger, lead_end, timeout_step_ways, mark_window, mark_from, mark_end, commit_notice_step_ways}
-use Rattle.laws.specs.WaysDurability.{logged, with_slot}
+use Rattle.laws.specs.WaysDurability.{with_slot}
 use Rattle.laws.specs.WaysAdded.{offer_window, offer_step_ways, executed_step_ways, open_read_step_ways, read_at, read_place, merged_read, read_reply_step_ways}
 use Rattle.laws.specs.Good.{Good, GoodBatch, GoodSlot, GoodWindow, GoodRead, GoodReads, Good-after}
 use Rattle.laws.specs.GoodSlots.{good_clean, good_prepared, good_redone, good_noted, good_heard, good_counted, good_entered, good_accepted, good_acknowledged, good_committed, good_marked, good_executed, good_offered, good_put, good_grown, good_sweep, good_appended}

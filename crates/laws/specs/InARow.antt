@@ -1,34 +1,29 @@
 -- Replies to an open read, one after the other and up to the quorum: neither order nor repetition makes a difference. The statement is `InAnyOrder`
 -- (AnyOrder).
-use Rattle.std.specs.Prelude.{◌≡◌, refl, true, false, List, [], ◌∷◌, ◌++◌, ◌⊎◌, ℕ, ◌-◌, ◌≤◌, ◌<◌, leb, length}
-use Rattle.std.proofs.Common.{sym, ap, subst, ◌∙◌, append-nil, ⊎_elim, arith, leb-true, leb-false}
+use Rattle.std.specs.Prelude.{◌≡◌, refl, true, false, List, [], ◌∷◌, ◌++◌, ℕ, ◌≤◌, ◌<◌, leb}
+use Rattle.std.proofs.Common.{sym, ap, subst, ◌∙◌, arith, leb-true}
 use mathlib.Core.List.Memᴰ
-use Rattle.base.specs.Pick.{pick_cases, decide, clash, and_both}
+use Rattle.base.specs.Pick.{and_both}
 use Rattle.base.specs.Among.{◌∈◌, SameMembers, All}
 use Rattle.members.specs.Sets.{count_in}
-use Rattle.members.specs.Laws.{group_bounds, within_small, insert_again}
-use Rattle.members.specs.Many.{insert_all, insert_all_same}
+use Rattle.members.specs.Laws.{group_bounds, within_small}
+use Rattle.members.specs.Many.{insert_all_same}
 use Rattle.tally.specs.declared.Tally.{Tally}
 use Rattle.tally.specs.declared.Read.{Read}
-use Rattle.tally.specs.declared.Reads.{Reads}
-use Rattle.tally.specs.declared.Replied.{Replied}
-use Rattle.tally.specs.Open.{close_read, put_read, stays, reply_to}
-use Rattle.tally.specs.ReadLaws.{id_at, Distinct, find_id, find_only, find_nowhere, close_gone, close_put_count, close_put_each, put_count, put_length, put_here, put_distinct, put_again, put_back}
-use Rattle.tally.specs.ReadOrder.{read_after, Agreed, joined_by}
-use Rattle.tally.proofs.ReadOrder.{Agreed-cases, after_full, read_any_order}
+use Rattle.tally.specs.Open.{stays}
+use Rattle.tally.specs.ReadOrder.{Agreed}
 use Rattle.actions.specs.Actions.{Act}
-use Rattle.decide.specs.Scalars.{quorum}
 use Rattle.replica.specs.declared.Replica.{Replica}
 use Rattle.replica.specs.Record.{Outcome, kept, summed}
-use Rattle.replica.specs.Fit.{usable, ready}
-use Rattle.replica.specs.AdmitLaws.{ready_last, ready_zero, ready_facts, member_some}
+use Rattle.replica.specs.Fit.{ready}
+use Rattle.replica.specs.AdmitLaws.{ready_zero, ready_facts, member_some}
 use Rattle.replica.specs.ActingLaws.{summed-kept}
 use Rattle.replica.specs.Step.{step}
-use Rattle.replica.specs.Quorumread.{with_reads, replied_step}
-use Rattle.replica.specs.ReadCallLaws.{replied_stays, replied_summed, reply_known, reply_unknown}
+use Rattle.replica.specs.Quorumread.{replied_step}
+use Rattle.replica.specs.ReadCallLaws.{replied_stays, reply_unknown}
 use Rattle.laws.specs.OfFit.{fit_facts}
 use Rattle.laws.specs.WaysAdded.{read_place, closed, stayed}
-use Rattle.laws.specs.AnyOrder.{read_of, ReadOpen, AgreeingReplies, acknowledged_with, member_reply, replied, replied_acts, replied_answers, SameInUse, InAnyOrder, all_answers}
+use Rattle.laws.specs.AnyOrder.{read_of, ReadOpen, AgreeingReplies, acknowledged_with, member_reply, replied, replied_acts, replied_answers, SameInUse}
 use Rattle.laws.specs.Summaries.{usable-fit}
 
 -- ONE REPLY

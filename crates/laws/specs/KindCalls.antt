@@ -45,7 +45,7 @@ use Rattle.replica.specs.Durability.{prepared_done, moved_accept, then_moved, ac
 use Rattle.replica.specs.Quorumread.{open_read_step, replied_step, read_reply_step}
 use Rattle.replica.specs.Added.{offer_step, moved_exec, executed_step}
 use Rattle.replica.specs.Step.{Call, call_prepare, call_prepare_reply, call_accept, call_accept_reply, call_commit_notice, call_timeout, call_logged, call_offer, call_executed, call_open_read, call_read_reply, does, step}
-use Rattle.laws.specs.Kinds.{with_options, optioned, options_of, of_kind, found, kindless_entry, kindless, KindsAgree}
+use Rattle.laws.specs.Kinds.{with_options, optioned, options_of, of_kind, found, kindless_entry, kindless}
 
 -- ── lists and slots ──
 -- two sweeps that do the same to each element of the range

@@ -1,10 +1,9 @@
 -- The table of open reads: only the two calls of reads touch it, ids stay distinct, and every open read waits for its quorum.
 use Rattle.std.specs.Prelude.{◌≡◌, Bool, true, false, not, List, ℕ, ◌<◌, ltb, leb, get_or}
 use Rattle.std.proofs.Math.Path.{refl}
-use Rattle.std.proofs.Common.{sym, ap, subst, ⊎_elim, arith, get_or-set_same, get_or-set_other, leb-false}
+use Rattle.std.proofs.Common.{⊎_elim, arith, get_or-set_same, get_or-set_other, leb-false}
 use Rattle.base.specs.Pick.{pick_both, pick_cases, clash, same?}
 use Rattle.members.specs.Sets.{count_in}
-use Rattle.members.specs.Groups.{quorum_of}
 use Rattle.members.specs.Laws.{count_empty}
 use Rattle.tally.specs.declared.Tally.{Tally}
 use Rattle.tally.specs.declared.Read.{Read}

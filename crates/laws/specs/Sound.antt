@@ -28,11 +28,10 @@ use Rattle.replica.specs.Leadership.{timeout_step, commit_notice_step}
 use Rattle.replica.specs.Durability.{moved_accept, pass_stop, logged_step}
 use Rattle.replica.specs.Quorumread.{answer_act, open_read_step, read_reply_step}
 use Rattle.replica.specs.Added.{moved_exec, offer_step, executed_step}
-use Rattle.replica.specs.Step.{Call, call_prepare, call_prepare_reply, call_accept, call_accept_reply, call_commit_notice, call_timeout, call_logged, call_offer, call_executed, call_open_read, call_read_reply, does, step}
 use Rattle.replica.specs.ActingLaws.{with_summary}
 use Rattle.laws.specs.OfScalars.{Fixed, Fixed-same, Fixed-then, followed-Fixed}
 use Rattle.laws.specs.OfFit.{FitNumbers, fit_facts}
-use Rattle.laws.specs.Conflict.{TallyOnly, Conflicts, conflict_only}
+use Rattle.laws.specs.Conflict.{TallyOnly, conflict_only}
 use Rattle.laws.specs.Leaves.{done, or_kept_ways}
 use Rattle.laws.specs.WaysMessages.{keeping, keeping_low, Keeps, prepare_window, prepare_end, prepare_step_ways, accept_window, other_named, accept_decided, accept_step_ways, accept_reply_step_ways}
 use Rattle.laws.specs.WaysReply.{prepare_reply_step_ways}

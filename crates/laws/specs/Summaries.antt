@@ -1,23 +1,19 @@
 -- 02, Wish 1: "keep it in a small summary, equal to the full walk after every call".
-use Rattle.std.specs.Prelude.{◌≡◌, refl, Bool, true, false, ◌&&◌, ◌⊎◌, ℕ, ◌≤◌, ◌<◌, leb, eqb}
-use Rattle.std.proofs.Common.{sym, ap, ◌∙◌, inl, inr, arith, eq-eqb, eqb-true, leb-true}
-use Rattle.base.specs.Pick.{pick, pick_both, and_left, and_right, and_both, and_make, decide, same?}
+use Rattle.std.specs.Prelude.{◌≡◌, refl, true, ℕ, ◌≤◌, ◌<◌, leb, eqb}
+use Rattle.std.proofs.Common.{arith, eq-eqb, eqb-true, leb-true}
+use Rattle.base.specs.Pick.{pick_both, and_left, and_both, and_make}
 use Rattle.base.specs.Scan.{scan, scan_passed}
 use Rattle.decide.specs.Scalars.{may_be}
 use Rattle.window.specs.Window.{slot_at, first_open}
 use Rattle.window.specs.Summary.{walk}
-use Rattle.window.specs.SummaryLaws.{Sums, Sums-walk, walk-Sums}
 use Rattle.replica.specs.declared.Replica.{Replica}
 use Rattle.replica.specs.declared.Made.{Made}
 use Rattle.replica.specs.Record.{Outcome, new_replica, place}
-use Rattle.replica.specs.Fit.{fit, roomy, sums, usable, ready}
+use Rattle.replica.specs.Fit.{fit, sums, usable}
 use Rattle.replica.specs.Durability.{pass_stop}
-use Rattle.replica.specs.AdmitLaws.{ready_facts}
 use Rattle.replica.specs.ActingLaws.{Summed}
-use Rattle.replica.specs.Step.{Call, call_prepare, call_prepare_reply, call_accept, call_accept_reply, call_commit_notice, call_timeout, call_logged, call_offer, call_executed, call_open_read, call_read_reply, does, step}
+use Rattle.replica.specs.Step.{Call, call_prepare, call_prepare_reply, call_accept, call_accept_reply, call_commit_notice, call_timeout, call_logged, call_offer, call_executed, call_open_read, call_read_reply}
 use Rattle.laws.specs.Conflict.{Conflicts}
-use Rattle.laws.specs.Room.{step-unready}
-use Rattle.laws.specs.Theorems.{fit_stays}
 
 -- ── the test as a fact ──
 pub sums-Summed : (r : Replica) → sums r ≡ true → Summed r

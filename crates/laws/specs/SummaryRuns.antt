@@ -1,26 +1,23 @@
 -- The summary in runs of member 2 of 3 from slot 0 on, closed by computation: both its numbers, where it falls, and 14.
-use Rattle.std.specs.Prelude.{◌≡◌, refl, Bool, true, false, ◌&&◌, List, [], ◌∷◌, ◌++◌, ℕ, T, eqb, replicate}
+use Rattle.std.specs.Prelude.{◌≡◌, refl, Bool, true, ◌&&◌, List, [], ◌∷◌, ℕ, T, eqb, replicate}
 use Rattle.std.proofs.Common.{arith}
 use Rattle.base.specs.Scan.{scan}
 use Rattle.members.specs.Sets.{has, insert, count, count_in}
-use Rattle.batch.specs.declared.Batch.{Batch}
 use Rattle.batch.specs.Batches.{make_batch}
 use Rattle.batch.specs.Keys.{place_in, note_key, note_keys, new_keys, overfull_in}
 use Rattle.tally.specs.Open.{fit_reads}
 use Rattle.slots.specs.Slots.{fit_slot}
-use Rattle.decide.specs.Decide.{decide_accept, decide_accept_reply, decide_promised, decide_accepted, decide_offer, decide_vote, decide_count}
+use Rattle.decide.specs.Decide.{decide_accept, decide_accept_reply, decide_promised, decide_accepted}
 use Rattle.decide.specs.Scalars.{fit_scalars}
-use Rattle.decide.specs.Bars.{not_above, least_majority, with_bar, with_fallen}
-use Rattle.window.specs.declared.Summary.{Summary}
 use Rattle.window.specs.Window.{fit_slots, last_used, first_open, last_open, mark_stop, filled}
 use Rattle.replica.specs.declared.Replica.{Replica}
-use Rattle.replica.specs.declared.Entry.TheVariants.{PrepareBal, AcceptData, CommitSlot}
+use Rattle.replica.specs.declared.Entry.TheVariants.{AcceptData, CommitSlot}
 use Rattle.replica.specs.Record.{kept, new_replica, noting, settled}
 use Rattle.replica.specs.Fit.{fit}
-use Rattle.replica.specs.Messages.{prepare_on, prepare_step, counted_on, voted_on, replied_on, reply_on, accept_step, accept_reply_step}
+use Rattle.replica.specs.Messages.{prepare_on, prepare_step, accept_step}
 use Rattle.replica.specs.Leadership.{lead_on, step_up, timeout_step, mark_on, commit_notice_step}
 use Rattle.replica.specs.Durability.{prepared_done, moved_accept, accepted_done, pass_on, pass_stop, committed_done, logged_on, logged_step}
-use Rattle.replica.specs.Added.{offer_step, moved_exec, executed_step}
+use Rattle.replica.specs.Added.{moved_exec, executed_step}
 use Rattle.replica.specs.ActingLaws.{with_summary}
 use Rattle.replica.specs.Step.{Call, call_prepare, call_accept, call_commit_notice, call_timeout, call_logged, call_executed, step}
 use Rattle.laws.specs.WaysDurability.{completion}

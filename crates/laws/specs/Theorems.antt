@@ -1,19 +1,15 @@
 -- What holds of every call, over all replicas, rooms and calls.
-use Rattle.std.specs.Prelude.{◌≡◌, refl, Bool, true, false, not, ◌&&◌, [], ◌⊎◌, ℕ, ◌/◌, ◌%◌, ◌≤◌, ◌<◌, leb, eqb, length}
-use Rattle.std.proofs.Common.{sym, ap, subst, ◌∙◌, inl, inr, ⊎_elim, arith, le-leb, eqb-true}
+use Rattle.std.specs.Prelude.{◌≡◌, refl, true, false, ◌⊎◌, ℕ, ◌≤◌, ◌<◌, leb}
+use Rattle.std.proofs.Common.{sym, subst, ◌∙◌, inl, inr, le-leb}
 use Rattle.std.proofs.Math.Bool.{and-false}
-use Rattle.std.proofs.lemmas.Bool.{lt-leb, not-true}
-use Rattle.base.specs.Pick.{pick_both, decide, and_left, and_right, or_cases, clash, tests}
-use Rattle.decide.specs.Scalars.{strict, may_be, fit_scalars}
-use Rattle.window.specs.Places.{size}
+use Rattle.std.proofs.lemmas.Bool.{lt-leb}
+use Rattle.base.specs.Pick.{pick_both, decide}
+use Rattle.decide.specs.Scalars.{may_be, fit_scalars}
 use Rattle.replica.specs.declared.Replica.{Replica}
 use Rattle.replica.specs.declared.Made.{Made}
 use Rattle.replica.specs.Record.{Outcome, kept, zero_replica, new_replica}
 use Rattle.replica.specs.Fit.{fit, sums}
 use Rattle.replica.specs.Step.{Call, step}
-use Rattle.laws.specs.WaysMessages.{keeping}
-use Rattle.laws.specs.Sound.{answering}
-use Rattle.laws.specs.Conflict.{Conflicts}
 use Rattle.laws.specs.Room.{step-unready, step_room}
 use Rattle.laws.specs.OfFit.{fresh_fits, fit_facts, facts_fit}
 use Rattle.laws.specs.Good.{Sized, Fits-Good, Good-Fits, Good-Sized, fresh-Sized, zero_sized}

@@ -11,8 +11,11 @@ mod line;
 
 ghost use Rattle.std.specs.Prelude.{◌≤◌, length};
 
+use feed::Input;
 use lent::merged;
 use line::put_line;
+use std::io::Read;
+use std::process::ExitCode;
 use tally::listed::listed;
 use tally::open_reads::nothing_known;
 use tally::{Merged, Tally};
@@ -80,30 +83,40 @@ fn overlong(run: Run, text: &mut [u8]) -> Run {
 }
 
 // Reads to the end, or until the bytes are full: a turn that does not end adds one byte at least.
-fn filled(bytes: &mut [u8]) -> usize
-    ensures { result ≤ length bytes.new }
+fn filled(reader: &mut impl Read, errors: &impl Eprint, bytes: &mut [u8]) -> Input
+    ensures { result.have ≤ length bytes.new }
 {
     let mut have = 0;
     for turn in 0..bytes.len() {
-        let input = feed::read_more(bytes, have);
+        let input = feed::read_more(reader, errors, bytes, have);
         have = input.have;
         if input.ended {
-            return have;
+            return input;
         }
     }
-    have
+    Input {
+        have: have,
+        ended: false,
+        failed: false,
+    }
 }
 
-fn main() {
+// The status is 1 where a read or a write failed; where a read did, what came before it is merged and printed all the same.
+fn main(rt: HostRuntime) -> ExitCode {
     let mut bytes = [0u8; 262144];
     let mut text = [0u8; 262144];
-    let n = filled(&mut bytes);
+    let (mut reader, mut writer) = (rt.stdin(), rt.stdout());
+    let input = filled(&mut reader, &rt, &mut bytes);
     let none = nothing_known(0);
     let start = Run {
         tally: none,
         place: 0,
     };
-    let all = taken_all(start, &bytes[0..n], &mut text);
+    let all = taken_all(start, &bytes[0..input.have], &mut text);
     let end = overlong(all, &mut text);
-    feed::write_text(&text, end.place);
+    let written = feed::write_text(&mut writer, &rt, &text, end.place);
+    if input.failed || !written {
+        return ExitCode::FAILURE;
+    }
+    ExitCode::SUCCESS
 }

@@ -36,7 +36,7 @@ use Rattle.window.specs.KeptLaws.{counted_in_lem}
 use Rattle.window.specs.SummaryLaws.{Sums, Sums-steady, Sums-filled, Sums-prepared, unused_null}
 use Rattle.replica.specs.declared.Replica.{Replica}
 use Rattle.replica.specs.Record.{Outcome, kept, settled, summed, with_window, place, number, log_end}
-use Rattle.replica.specs.Messages.{clean, down_acts, prepare_top, prepare_on, prepare_step, accept_on, accept_step, accept_reply_step}
+use Rattle.replica.specs.Messages.{clean, down_acts, prepare_top, prepare_on, accept_on, accept_step, accept_reply_step}
 use Rattle.replica.specs.Step.{Told}
 use Rattle.replica.specs.Admit.{from_peer, from_owner}
 use Rattle.replica.specs.AdmitLaws.{gate_owner, gate_peer, gate_shut, gate_open, Ready}

@@ -1,16 +1,13 @@
 -- The rest of specs/AnyOrder.antt: what stands on a theorem that a must-fail edit makes false.
-use Rattle.std.specs.Prelude.{◌≡◌, refl, true, false, not, List, [], ◌∷◌, map, ℕ, ◌≤◌, ◌<◌, length, ltb}
-use Rattle.std.proofs.Common.{sym, ap, ◌∙◌, ⊎_elim, le_refl, arith, ext_get_or, ltb-true, ltb-false}
+use Rattle.std.specs.Prelude.{◌≡◌, refl, List, [], ◌∷◌, map, ℕ, ◌<◌}
+use Rattle.std.proofs.Common.{sym, ap, ◌∙◌, arith}
 use mathlib.Core.List.Memᴰ
-use Rattle.base.specs.Pick.{decide, clash, tests}
-use Rattle.base.specs.Among.{◌∈◌, SameMembers, map_members, All}
+use Rattle.base.specs.Among.{map_members}
 use Rattle.base.specs.Over.{length-over}
-use Rattle.base.specs.Scan.{scan_high, scan_end, scan_stopped}
 use Rattle.tally.specs.declared.Best.{Best}
 use Rattle.tally.specs.declared.Tally.{Tally}
-use Rattle.tally.specs.Merge.{merge_key, no_best, best_at, agree_at, conflict_at, merge_at, merge_up_to, merge}
-use Rattle.tally.specs.Turns.{Merging, merging_end}
-use Rattle.tally.specs.Larger.{more_known, Agree, Agree-sym, Agree-self, Agree-merges, merges_agree, no_clash, merged_more, more_self, more_commutes, more_associates, more_agrees, most_known, most_same}
+use Rattle.tally.specs.Merge.{merge_key, no_best, best_at, merge_at, merge}
+use Rattle.tally.specs.Larger.{more_known, merges_agree, no_clash, merged_more, more_self, more_commutes, more_associates, more_agrees, most_known, most_same}
 use Rattle.tally.proofs.Laws.{merged_at, kept_at, merge-Joined}
 use Rattle.tally.specs.AnyOrder.{Agreeing, Agreeing-self, Agreeing-sym, Alike, Consistent, Consistent-same, Eight, MostKnown, NoConflict, TallyAnyOrder, agreeing_merge, by_count, joined, joined-Eight, key_agrees, merge_all, same_tally}
 

@@ -1,15 +1,10 @@
 -- The rest of specs/Larger.antt: what stands on a theorem that a must-fail edit makes false.
-use Rattle.std.specs.Prelude.{◌≡◌, refl, Bool, true, false, not, ◌&&◌, List, [], ◌∷◌, ℕ, suc, ◌+◌, ◌≤◌, ◌<◌, ltb, leb, eqb}
-use Rattle.std.proofs.Common.{sym, ap, ◌∙◌, ⊎_elim, le_refl, arith, lt-ltb, le-ltb, eqb-true, eq-eqb, ne_eqb}
-use mathlib.Core.List.Memᴰ
-use Rattle.std.proofs.lemmas.Bool.{not-true}
-use Rattle.base.specs.Pick.{pick, larger, pick_both, pick_cases, pick_same, pick_through, clash, same?, and_both, larger_left, larger_right, tests}
-use Rattle.base.specs.Among.{◌∈◌, SameMembers}
+use Rattle.std.specs.Prelude.{◌≡◌, ◌≤◌}
+use Rattle.std.proofs.Common.{sym, ap, ◌∙◌, le_refl}
+use Rattle.base.specs.Pick.{larger, larger_left}
 use Rattle.tally.specs.declared.Best.{Best}
-use Rattle.tally.specs.declared.Best.TheVariants.{Nothing, Slot, Value}
-use Rattle.tally.specs.declared.MergedKey.{MergedKey}
-use Rattle.tally.specs.declared.MergedKey.TheVariants.{Into, Conflict}
-use Rattle.tally.specs.Merge.{best_numbers, merge_key, conflicts, merged_best}
+use Rattle.tally.specs.declared.MergedKey.TheVariants.{Into}
+use Rattle.tally.specs.Merge.{merge_key, merged_best}
 use Rattle.tally.specs.Larger.{Agree, Agree-merges, Agree-self, Agree-sym, level, merged_into, merged_more, more_agrees, more_associates, more_commutes, more_known, more_left, more_level, more_self, valued}
 
 -- so nothing known is lost: neither falls a slot nor goes a value but to a larger slot

@@ -4,7 +4,6 @@ use Rattle.std.proofs.Math.Path.{refl}
 use Rattle.std.proofs.Common.{sym, ap, ◌∙◌, ⊎_elim, le_refl, arith}
 use Rattle.std.proofs.Math.Bool.{false}
 use mathlib.Core.List.Memᴰ
-use Rattle.std.proofs.lemmas.List.{get_or-replicate}
 use Rattle.std.proofs.Math.ListN.{get_or-eq_default}
 use borrow.Author.Tests.{ltb-true, ltb-false, leb-false, eqb-true, eqb-false, not-true, not-false}
 use Rattle.base.specs.Pick.{coincide, pick_both, pick_cases, decide, clash, larger_right, tests}
@@ -12,9 +11,7 @@ use Rattle.base.specs.Among.{◌∈◌}
 use Rattle.base.specs.Over.{length-over, over_at, over_after}
 use Rattle.base.specs.Scan.{scan_high, scan_passed, scan_stopped}
 use Rattle.members.specs.Sets.{has, insert, count_in}
-use Rattle.tally.specs.declared.Held.{Held}
-use Rattle.tally.specs.declared.Best.{Best}
-use Rattle.tally.specs.declared.Best.TheVariants.{Nothing, Slot, Value}
+use Rattle.tally.specs.declared.Best.TheVariants.{Nothing}
 use Rattle.tally.specs.declared.KeyBest.{KeyBest}
 use Rattle.tally.specs.declared.Tally.{Tally}
 use Rattle.tally.specs.declared.MergedKey.{MergedKey}
@@ -22,10 +19,10 @@ use Rattle.tally.specs.declared.MergedKey.TheVariants.{Into, Conflict}
 use Rattle.tally.specs.declared.Merged.{Merged}
 use Rattle.tally.specs.declared.Read.{Read}
 use Rattle.tally.specs.declared.Replied.{Replied}
-use Rattle.tally.specs.Merge.{best_numbers, answer_of, merge_key, merged_answer, conflicts, merged_best, no_best, best_at, agree_at, conflict_at, merge_at, merge_up_to, merge}
+use Rattle.tally.specs.Merge.{merge_key, merged_answer, conflicts, merged_best, no_best, best_at, agree_at, conflict_at, merge_at, merge_up_to, merge}
 use Rattle.tally.specs.Larger.{level, merged_into}
 use Rattle.tally.proofs.Larger.{merged_level, merged_rises}
-use Rattle.tally.specs.Open.{nothing_known, with_tally, with_ack, stays, replaced, reply_to}
+use Rattle.tally.specs.Open.{with_tally, with_ack, stays, replaced, reply_to}
 use Rattle.tally.specs.Laws.{clashed, first_kept}
 
 -- A TALLY

@@ -1,19 +1,19 @@
 -- The rest of specs/ReadOrder.antt: what stands on a theorem that a must-fail edit makes false.
-use Rattle.std.specs.Prelude.{◌≡◌, refl, true, false, List, [], ◌∷◌, ◌++◌, map, ◌⊎◌, ℕ, ◌≤◌, ◌<◌, leb, eqb}
-use Rattle.std.proofs.Common.{sym, ap, ◌∙◌, inl, inr, ⊎_elim, arith, eqb-true}
+use Rattle.std.specs.Prelude.{◌≡◌, refl, true, false, List, [], ◌∷◌, ◌++◌, map, ◌⊎◌, ℕ, ◌≤◌, ◌<◌, leb}
+use Rattle.std.proofs.Common.{sym, ap, ◌∙◌, inl, inr, arith}
 use mathlib.Core.List.Memᴰ
-use Rattle.base.specs.Pick.{pick, pick_both, pick_cases, decide, clash, or-false}
-use Rattle.base.specs.Among.{◌∈◌, SameMembers, map_members}
+use Rattle.base.specs.Pick.{pick_both, decide}
+use Rattle.base.specs.Among.{◌∈◌, map_members}
 use Rattle.members.specs.Sets.{has, insert, count_in}
-use Rattle.members.specs.Laws.{has-insert, insert_again, insert_below, count_new}
-use Rattle.members.specs.Many.{insert_all, Members, insert_all_count, insert_all_same}
+use Rattle.members.specs.Laws.{insert_again, insert_below, count_new}
+use Rattle.members.specs.Many.{insert_all, insert_all_count, insert_all_same}
 use Rattle.tally.specs.declared.Tally.{Tally}
 use Rattle.tally.specs.declared.Merged.{Merged}
 use Rattle.tally.specs.declared.Read.{Read}
 use Rattle.tally.specs.declared.Replied.{Replied}
-use Rattle.tally.specs.Open.{with_tally, with_ack, stays, quorum_closes, acknowledged, reply_to}
+use Rattle.tally.specs.Open.{stays, quorum_closes, acknowledged, reply_to}
 use Rattle.tally.specs.Cases.{reply_again, reply_new}
-use Rattle.tally.specs.AnyOrder.{Eight, Agreeing, Consistent, merge_all, joined, joined-Eight, agreeing_merge}
+use Rattle.tally.specs.AnyOrder.{Agreeing, merge_all, joined, joined-Eight, agreeing_merge}
 use Rattle.tally.proofs.AnyOrder.{Agreeing-joined, any_order}
 use Rattle.tally.specs.ReadOrder.{Agreed, Agreed-same, ReadAnyOrder, collected, joined_by, new_consistent, newcomers, newcomers_same, out_before, read_after}
 

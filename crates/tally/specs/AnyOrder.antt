@@ -3,14 +3,14 @@ use Rattle.std.specs.Prelude.{◌≡◌, refl, true, false, not, List, [], ◌�
 use Rattle.std.proofs.Common.{sym, ap, ◌∙◌, ⊎_elim, le_refl, arith, ext_get_or, ltb-true, ltb-false}
 use mathlib.Core.List.Memᴰ
 use Rattle.base.specs.Pick.{decide, clash, tests}
-use Rattle.base.specs.Among.{◌∈◌, SameMembers, map_members, All}
+use Rattle.base.specs.Among.{◌∈◌, SameMembers, All}
 use Rattle.base.specs.Over.{length-over}
 use Rattle.base.specs.Scan.{scan_high, scan_end, scan_stopped}
 use Rattle.tally.specs.declared.Best.{Best}
 use Rattle.tally.specs.declared.Tally.{Tally}
-use Rattle.tally.specs.Merge.{merge_key, no_best, best_at, agree_at, conflict_at, merge_at, merge_up_to, merge}
+use Rattle.tally.specs.Merge.{no_best, best_at, agree_at, conflict_at, merge_at, merge_up_to, merge}
 use Rattle.tally.specs.Turns.{Merging, merging_end}
-use Rattle.tally.specs.Larger.{more_known, Agree, Agree-sym, Agree-self, Agree-merges, merges_agree, no_clash, merged_more, more_self, more_commutes, more_associates, more_agrees, most_known, most_same}
+use Rattle.tally.specs.Larger.{Agree, Agree-sym, Agree-self, Agree-merges, most_known}
 
 -- WHAT IS SAID
 

@@ -1,20 +1,17 @@
 -- A read that members answer one after the other, none marked from the leader: what it knows then, and whom it has heard, does not depend on their order,
 -- nor on how often each is told.
-use Rattle.std.specs.Prelude.{◌≡◌, refl, true, false, List, [], ◌∷◌, ◌++◌, map, ◌⊎◌, ℕ, ◌≤◌, ◌<◌, leb, eqb}
-use Rattle.std.proofs.Common.{sym, ap, ◌∙◌, inl, inr, ⊎_elim, arith, eqb-true}
+use Rattle.std.specs.Prelude.{◌≡◌, refl, true, false, List, [], ◌∷◌, map, ℕ, ◌<◌, eqb}
+use Rattle.std.proofs.Common.{sym, ◌∙◌, ⊎_elim, eqb-true}
 use mathlib.Core.List.Memᴰ
-use Rattle.base.specs.Pick.{pick, pick_both, pick_cases, decide, clash, or-false}
-use Rattle.base.specs.Among.{◌∈◌, SameMembers, map_members}
-use Rattle.members.specs.Sets.{has, insert, count_in}
-use Rattle.members.specs.Laws.{has-insert, insert_again, insert_below, count_new}
-use Rattle.members.specs.Many.{insert_all, Members, insert_all_count, insert_all_same}
+use Rattle.base.specs.Pick.{pick, pick_cases, decide, clash, or-false}
+use Rattle.base.specs.Among.{◌∈◌, SameMembers}
+use Rattle.members.specs.Sets.{has, insert}
+use Rattle.members.specs.Laws.{has-insert, insert_below}
+use Rattle.members.specs.Many.{insert_all, Members}
 use Rattle.tally.specs.declared.Tally.{Tally}
-use Rattle.tally.specs.declared.Merged.{Merged}
 use Rattle.tally.specs.declared.Read.{Read}
-use Rattle.tally.specs.declared.Replied.{Replied}
-use Rattle.tally.specs.Open.{with_tally, with_ack, stays, quorum_closes, acknowledged, reply_to}
-use Rattle.tally.specs.Cases.{reply_again, reply_new}
-use Rattle.tally.specs.AnyOrder.{Eight, Agreeing, Consistent, merge_all, joined, joined-Eight, agreeing_merge}
+use Rattle.tally.specs.Open.{with_tally, with_ack, reply_to}
+use Rattle.tally.specs.AnyOrder.{Eight, Agreeing, Consistent, merge_all, joined}
 
 -- WHAT IS SAID
 

@@ -15,26 +15,31 @@ ghost use Rattle.std.specs.Prelude.{◌≤◌, length};
 use play::Run;
 use records::tell_at;
 use replica::Replica;
+use std::io::{Read, Write};
+use std::process::ExitCode;
 
-// Between two reads: the run, how many bytes of a record begun are at the front of the buffer, and whether to go on.
+// Between two reads: the run, how many bytes of a record begun are at the front of the buffer, whether to go on, and whether a read or a
+// write failed.
 #[derive(Clone, Copy)]
 struct Turn {
     run: Run,
     have: usize,
     going: bool,
+    failed: bool,
 }
 
-fn stopped(run: Run) -> Turn {
+fn stopped(run: Run, failed: bool) -> Turn {
     Turn {
         run: run,
         have: 0,
         going: false,
+        failed: failed,
     }
 }
 
 // Writes the text so far; the next is at its front again.
-fn written(run: Run, text: &[u8]) -> Turn {
-    let going = feed::write_text(text, run.place);
+fn written(writer: &mut impl Write, errors: &impl Eprint, run: Run, text: &[u8]) -> Turn {
+    let going = feed::write_text(writer, errors, text, run.place);
     let replica = run.replica;
     let next = Run {
         number: run.number,
@@ -45,11 +50,20 @@ fn written(run: Run, text: &[u8]) -> Turn {
         run: next,
         have: 0,
         going: going,
+        failed: !going,
     }
 }
 
 // One record, and the text written where the next record might not fit: none has 150,000 bytes.
-fn told(t: Turn, room: &mut [u64], bytes: &[u8], at: usize, text: &mut [u8]) -> Turn {
+fn told(
+    writer: &mut impl Write,
+    errors: &impl Eprint,
+    t: Turn,
+    room: &mut [u64],
+    bytes: &[u8],
+    at: usize,
+    text: &mut [u8],
+) -> Turn {
     if !t.going {
         return t;
     }
@@ -60,70 +74,112 @@ fn told(t: Turn, room: &mut [u64], bytes: &[u8], at: usize, text: &mut [u8]) -> 
             run: after,
             have: 0,
             going: true,
+            failed: false,
         };
     }
-    written(after, text)
+    written(writer, errors, after, text)
 }
 
 // Every whole record.
-fn told_all(mut t: Turn, room: &mut [u64], bytes: &[u8], text: &mut [u8]) -> Turn {
+fn told_all(
+    writer: &mut impl Write,
+    errors: &impl Eprint,
+    mut t: Turn,
+    room: &mut [u64],
+    bytes: &[u8],
+    text: &mut [u8],
+) -> Turn {
     for i in 0..bytes.len() / 256 {
-        t = told(t, room, bytes, 256 * i, text);
+        t = told(writer, errors, t, room, bytes, 256 * i, text);
     }
     t
 }
 
 // The end: a record begun is short.
-fn ended(t: Turn, bytes: &[u8], room: &mut [u64], text: &mut [u8]) -> Turn {
+fn ended(
+    writer: &mut impl Write,
+    errors: &impl Eprint,
+    t: Turn,
+    bytes: &[u8],
+    room: &mut [u64],
+    text: &mut [u8],
+) -> Turn {
     if bytes.len() == 0 {
         let run = t.run;
-        return stopped(run);
+        return stopped(run, false);
     }
-    let last = told(t, room, bytes, 0, text);
+    let last = told(writer, errors, t, room, bytes, 0, text);
     let run = last.run;
-    let end = written(run, text);
+    let end = written(writer, errors, run, text);
     let done = end.run;
-    stopped(done)
+    stopped(done, last.failed || end.failed)
 }
 
 // The whole records of the first n bytes; what is past them is kept.
-fn played(t: Turn, n: usize, bytes: &mut [u8], room: &mut [u64], text: &mut [u8]) -> Turn
+fn played(
+    writer: &mut impl Write,
+    errors: &impl Eprint,
+    t: Turn,
+    n: usize,
+    bytes: &mut [u8],
+    room: &mut [u64],
+    text: &mut [u8],
+) -> Turn
     requires { n ≤ length bytes.old }
 {
-    let all = told_all(t, room, &bytes[0..n], text);
+    let all = told_all(writer, errors, t, room, &bytes[0..n], text);
     let rest = feed::keep_rest(bytes, n);
     let run = all.run;
-    let end = written(run, text);
+    let end = written(writer, errors, run, text);
     let next = end.run;
     Turn {
         run: next,
         have: rest,
         going: end.going && all.going,
+        failed: end.failed || all.failed,
     }
 }
 
 // One read and what follows from it.
-fn turned(t: Turn, bytes: &mut [u8], room: &mut [u64], text: &mut [u8]) -> Turn {
-    let input = feed::read_more(bytes, t.have);
+fn turned(
+    reader: &mut impl Read,
+    writer: &mut impl Write,
+    errors: &impl Eprint,
+    t: Turn,
+    bytes: &mut [u8],
+    room: &mut [u64],
+    text: &mut [u8],
+) -> Turn {
+    let input = feed::read_more(reader, errors, bytes, t.have);
     if input.failed {
         let run = t.run;
-        return stopped(run);
+        return stopped(run, true);
     }
     let n = input.have;
     if input.ended {
-        return ended(t, &bytes[0..n], room, text);
+        return ended(writer, errors, t, &bytes[0..n], room, text);
     }
-    played(t, n, bytes, room, text)
+    played(writer, errors, t, n, bytes, room, text)
 }
 
-// A proved loop has to end, and nothing says that the input does: it counts its turns down, from a number that no run uses up.
-fn play_input(start: Turn, bytes: &mut [u8], room: &mut [u64], text: &mut [u8]) {
+// Whether a read or a write failed. A proved loop has to end, and nothing says that the input does: it counts its turns down, from a number that
+// no run uses up.
+fn play_input(
+    reader: &mut impl Read,
+    writer: &mut impl Write,
+    errors: &impl Eprint,
+    start: Turn,
+    bytes: &mut [u8],
+    room: &mut [u64],
+    text: &mut [u8],
+) -> bool {
     let mut t = start;
     let mut turns = u64::MAX;
     while turns > 0 && t.going {
-        t = turned(t, bytes, room, text);
+        t = turned(reader, writer, errors, t, bytes, room, text);
         turns -= 1;
     }
+    t.failed
 }
 
 // Before the first read: nothing is played and no replica made.
@@ -139,13 +195,28 @@ fn begun() -> Turn {
         run: run,
         have: 0,
         going: true,
+        failed: false,
     }
 }
 
-fn main() {
+// The status is 1 where a read or a write failed.
+fn main(rt: HostRuntime) -> ExitCode {
     let mut bytes = [0u8; 16384];
     let mut room = [0u64; 3456];
     let mut text = [0u8; 180000];
     let start = begun();
-    play_input(start, &mut bytes, &mut room, &mut text);
+    let (mut reader, mut writer) = (rt.stdin(), rt.stdout());
+    let failed = play_input(
+        &mut reader,
+        &mut writer,
+        &rt,
+        start,
+        &mut bytes,
+        &mut room,
+        &mut text,
+    );
+    if failed {
+        return ExitCode::FAILURE;
+    }
+    ExitCode::SUCCESS
 }

@@ -40,7 +40,7 @@ fn handled(text: &mut [u8], at: usize, room: &[u64], number: u64, h: Handled) ->
 pub(crate) fn tell_at(run: Run, room: &mut [u64], bytes: &[u8], at: usize, text: &mut [u8]) -> Run {
     let before = run.replica;
     let h = play_at(before, room, bytes, at);
-    let number = std::num::wrapping_add_u64(run.number, 1);
+    let number = run.number.wrapping_add(1);
     let place = handled(text, run.place, room, number, h);
     let after = h.replica;
     Run {

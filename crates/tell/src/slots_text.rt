@@ -112,7 +112,7 @@ pub(crate) fn slots(text: &mut [u8], at: usize, sc: Scalars, w: Window) -> usize
     let strict = sc.strict();
     let mut next = at;
     for i in 0..64 {
-        let slot = std::num::wrapping_add_u64(sc.start, i as u64);
+        let slot = sc.start.wrapping_add(i as u64);
         let s = w.slots[i];
         next = slot_line(text, next, strict, slot, s, i < w.len);
     }

@@ -1,7 +1,6 @@
 use native.Mathlib.Omega.{arith}
 use mathlib.Core.Path.{◌≡◌, refl}
 use borrow.Author.Tests.{ne_eqb, not-true, not-false}
-use lib.ListN.{length}
 use Rattle.window.specs.Window.{put_slot}
 use Rattle.replica.specs.ActingLaws.{refuse}
 use Rattle.replica.specs.Replying.{swept_to}
