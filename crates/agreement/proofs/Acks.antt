@@ -1,26 +1,16 @@
 -- The rest of specs/Acks.antt: what stands on a theorem that a must-fail edit makes false.
-use Rattle.std.specs.Prelude.{◌≡◌, refl, Bool, true, false, List, ◌⊎◌, ℕ, ◌+◌, ltb}
-use Rattle.std.proofs.Common.{sym, ap, subst, ◌∙◌, inl, inr, arith, ltb-true, ne_eqb}
-use mathlib.Core.List.Memᴰ
-use Rattle.base.specs.Pick.{pick_cases, and_both, clash}
-use Rattle.base.specs.Among.{◌∈◌}
+use Rattle.std.specs.Prelude.{◌≡◌, refl, true, ◌⊎◌, ℕ, ◌+◌}
+use Rattle.std.proofs.Common.{sym, subst, ◌∙◌, inl, inr, arith}
+use Rattle.base.specs.Pick.{clash}
 use Rattle.members.specs.Sets.{has}
-use Rattle.members.specs.Groups.{group_size}
-use Rattle.members.specs.Laws.{group_bounds}
-use Rattle.actions.specs.declared.Action.{Action}
-use Rattle.actions.specs.declared.Accepted.{Accepted}
-use Rattle.actions.specs.declared.Action.TheVariants.{PrepareBal, AcceptData, CommitSlot, Prepare, PrepareReply, Accept, AcceptReply, CommitNotice, Heartbeat, StatusUp, StatusDown, Execute, ReadAnswer}
-use Rattle.actions.specs.Actions.{Act}
-use Rattle.slots.specs.Slots.{accepting}
-use Rattle.decide.specs.Scalars.{leads, may_be}
+use Rattle.decide.specs.Scalars.{leads}
 use Rattle.replica.specs.declared.Replica.{Replica}
-use Rattle.replica.specs.declared.Made.{Made}
-use Rattle.replica.specs.Record.{Outcome, new_replica, fresh, zero_replica, number}
-use Rattle.replica.specs.Step.{Call, call_prepare, call_prepare_reply, call_accept, call_accept_reply, call_commit_notice, call_timeout, call_logged, call_offer, call_executed, call_open_read, call_read_reply, step, received}
-use Rattle.laws.proofs.Theorems.{refusals_keep, start_stays}
-use Rattle.voting.specs.Reached.{Good, good_new, Good-step}
-use Rattle.voting.specs.Backing.{stands, Stood, AcceptAck, accept_came, accept_own, acks_step}
-use Rattle.agreement.specs.Theorem.{Group, World, slot_of, put, begin, May, timer, offer, logged, execution, opening, replied, message, refused, Reach, begins, turn}
+use Rattle.replica.specs.Record.{Outcome, number}
+use Rattle.replica.specs.Step.{Call, call_accept_reply, step}
+use Rattle.laws.proofs.Theorems.{start_stays}
+use Rattle.voting.specs.Reached.{Good, Good-step}
+use Rattle.voting.specs.Backing.{stands, Stood, AcceptAck, acks_step}
+use Rattle.agreement.specs.Theorem.{Group, World, put, May, Reach, begins, turn}
 use Rattle.agreement.specs.Group.{each, old}
 use Rattle.agreement.proofs.Group.{inv}
 use Rattle.agreement.specs.Acks.{AcksSent, Behind, HasReplied, ack_cases, reply_sent, sent_of, start_fine, start_follows}

@@ -1,25 +1,15 @@
 -- The rest of specs/Commits.antt: what stands on a theorem that a must-fail edit makes false.
-use Rattle.std.specs.Prelude.{◌≡◌, refl, true, false, List, [], ◌∷◌, ◌++◌, ◌⊎◌, ℕ, ◌+◌, ◌-◌, ◌≤◌, ◌<◌, ltb, leb}
-use Rattle.std.proofs.Common.{sym, subst, inl, inr, arith, ltb-false, leb-true}
+use Rattle.std.specs.Prelude.{◌≡◌, true, List, ◌∷◌, ◌++◌, ℕ}
+use Rattle.std.proofs.Common.{sym, subst}
 use mathlib.Core.List.Memᴰ
-use Rattle.base.specs.Pick.{pick, decide, tests, and_right}
-use Rattle.base.specs.Gather.{in_gather}
 use Rattle.base.specs.Among.{◌∈◌}
-use Rattle.batch.specs.declared.Batch.{Batch}
-use Rattle.actions.specs.declared.Proposal.{Proposal}
-use Rattle.actions.specs.declared.Action.TheVariants.{AcceptData}
 use Rattle.actions.specs.Actions.{Act}
-use Rattle.slots.specs.Slots.{null_slot, committed}
-use Rattle.window.specs.declared.Window.{Window}
-use Rattle.window.specs.ByPlace.{at_place, at_present}
-use Rattle.replica.specs.declared.Replica.{Replica}
-use Rattle.replica.specs.Record.{Outcome, log_end}
+use Rattle.replica.specs.Record.{Outcome}
 use Rattle.replica.specs.Step.{Call, step}
-use Rattle.agreement.specs.BySlot.{numbered}
-use Rattle.agreement.specs.Theorem.{Group, Mark, World, slot_of, rises, mark_at, marks_of, put, begin, May, Reach, begins, turn, accept_entry, commit_entry}
+use Rattle.agreement.specs.Theorem.{Group, Mark, World, slot_of, marks_of, put, May, Reach, begins, turn, accept_entry, commit_entry}
 use Rattle.agreement.specs.Group.{each, rises_commit, commit_rises, commit_earlier_in, accept_was_sent}
 use Rattle.agreement.proofs.Group.{framed, inv}
-use Rattle.agreement.specs.Commits.{CommitsFollow, Followed, MarksAreCommits, Split, first, in_middle, mark_of, risen_marked, second, split, start_follow}
+use Rattle.agreement.specs.Commits.{CommitsFollow, Followed, MarksAreCommits, Split, first, in_middle, risen_marked, second, split, start_follow}
 
 pub marks_are_commits : (g : Group) (w : World) → Reach g w → (m : ℕ) → g.present m ≡ true → (room : ℕ) (c : Call)
     → MarksAreCommits (w.replica m) (step (w.replica m) room c)

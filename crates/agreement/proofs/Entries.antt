@@ -3,12 +3,11 @@ use Rattle.std.specs.Prelude.{◌≡◌, true, ℕ}
 use Rattle.std.proofs.Common.{subst}
 use Rattle.base.specs.Among.{◌∈◌, All, All-in, All-append, All-map}
 use Rattle.batch.specs.declared.Batch.{Batch}
-use Rattle.actions.specs.Actions.{Act}
 use Rattle.replica.specs.declared.Replica.{Replica}
 use Rattle.replica.specs.Record.{Outcome}
 use Rattle.replica.specs.Step.{step}
-use Rattle.agreement.specs.Theorem.{Group, World, begin, Reach, begins, turn, accept_entry}
-use Rattle.agreement.specs.Frame.{Clean, InWindow, Loggable, ActOk}
+use Rattle.agreement.specs.Theorem.{Group, World, Reach, begins, turn, accept_entry}
+use Rattle.agreement.specs.Frame.{Clean, InWindow, ActOk}
 use Rattle.agreement.specs.Group.{view_of, each}
 use Rattle.agreement.proofs.Group.{stays_in, framed}
 use Rattle.agreement.specs.Entries.{EntriesFit, EntryOk, none_yet}

@@ -1,33 +1,13 @@
 -- The rest of specs/Group.antt: what stands on a theorem that a must-fail edit makes false.
-use Rattle.std.specs.Prelude.{◌≡◌, Bool, true, false, ◌&&◌, List, [], ◌++◌, ◌⊎◌, ℕ, ◌+◌, ◌%◌, ◌≤◌, ◌<◌, ltb, leb, eqb}
-use Rattle.std.proofs.Math.Path.{refl, subst}
-use Rattle.std.proofs.Common.{sym, ◌∙◌, ap, inl, inr, arith, ltb-true, leb-true, eq-eqb, ne_eqb, lt-ltb, le-leb}
-use mathlib.Core.List.Memᴰ
-use Rattle.base.specs.Pick.{pick_cases, decide, same?, clash, tests, and_left, and_right, and_make}
-use Rattle.base.specs.Gather.{All-gather}
-use Rattle.base.specs.Among.{◌∈◌, All, All-in, All-append, All-map}
-use Rattle.members.specs.Groups.{group_size}
-use Rattle.batch.specs.declared.Batch.{Batch}
-use Rattle.batch.specs.Batches.{make_batch}
-use Rattle.actions.specs.declared.Action.{Action}
-use Rattle.actions.specs.declared.Action.TheVariants.{PrepareBal, AcceptData, CommitSlot, Prepare, PrepareReply, Accept, AcceptReply, CommitNotice, Heartbeat, StatusUp, StatusDown, Execute, ReadAnswer}
-use Rattle.actions.specs.Actions.{Act}
-use Rattle.slots.specs.declared.Slot.{Slot}
-use Rattle.slots.specs.Slots.{committed}
-use Rattle.decide.specs.Scalars.{may_be}
-use Rattle.window.specs.Window.{no_slots}
-use Rattle.window.specs.ByPlace.{at_past}
+use Rattle.std.specs.Prelude.{◌≡◌, true, ℕ}
+use Rattle.std.proofs.Common.{◌∙◌, ap}
 use Rattle.replica.specs.declared.Replica.{Replica}
-use Rattle.replica.specs.declared.Made.{Made}
-use Rattle.replica.specs.Record.{Outcome, new_replica, fresh, zero_replica, log_end}
-use Rattle.replica.specs.Messages.{clean}
-use Rattle.replica.specs.Step.{Call, call_prepare, call_prepare_reply, call_accept, call_accept_reply, call_commit_notice, call_timeout, call_logged, call_offer, call_executed, call_open_read, call_read_reply, step, received}
-use Rattle.agreement.specs.BySlot.{by_place}
-use Rattle.agreement.specs.Theorem.{Group, Mark, World, slot_of, rises, mark_at, marks_of, upd, put, begin, May, timer, offer, logged, execution, opening, replied, message, refused, Reach, begins, turn, ballots, NeverFalls, accept_entry, commit_entry, Agreement, Theorem}
-use Rattle.agreement.specs.Frame.{View, view, Owns, Why, led, told, Wrote, Marked, ActOk, Frame}
-use Rattle.agreement.specs.Good.{GoodSlot, GoodReplica}
+use Rattle.replica.specs.Record.{fresh}
+use Rattle.replica.specs.Step.{Call, step}
+use Rattle.agreement.specs.Theorem.{Group, World, Reach, begins, turn, Theorem}
+use Rattle.agreement.specs.Frame.{Frame}
+use Rattle.agreement.specs.Good.{GoodReplica}
 use Rattle.agreement.specs.Calls.{step-Ok}
-use Rattle.agreement.specs.Local.{accept_sent, Local, Local-start, Local-step, commit_earlier, subst₂}
 use Rattle.agreement.specs.Group.{Agreement-of, Inv, Inv-start, Inv-step, accept_was_sent, each, made_fresh, start_good, view_of}
 
 pub good_in : (g : Group) (w : World) → Reach g w → (m : ℕ) → g.present m ≡ true → GoodReplica (w.replica m)

@@ -1,12 +1,12 @@
 -- The rest of specs/Ignored.antt: what stands on a theorem that a must-fail edit makes false.
-use Rattle.std.specs.Prelude.{◌≡◌, refl, true, false, List, [], ◌∷◌, map, ℕ}
+use Rattle.std.specs.Prelude.{◌≡◌, refl, true, false, ◌∷◌, map, ℕ}
 use Rattle.std.proofs.Common.{◌∙◌, ap, subst}
 use Rattle.decide.specs.Scalars.{strict}
 use Rattle.replica.specs.declared.Replica.{Replica}
 use Rattle.replica.specs.declared.Done.{Done}
 use Rattle.replica.specs.Step.{Call, call_prepare, call_prepare_reply, call_accept, call_accept_reply, call_commit_notice, call_timeout, call_logged, call_offer, call_executed, call_open_read, call_read_reply, step}
 use Rattle.laws.proofs.Theorems.{kind_stays}
-use Rattle.laws.specs.BallotIgnored.{Alike, ballot_ignored, saying, saying-Alike}
+use Rattle.laws.specs.BallotIgnored.{ballot_ignored, saying, saying-Alike}
 use Rattle.agreement.specs.Theorem.{Group, World, put, begin, May, logged, Reach, begins, turn}
 use Rattle.agreement.proofs.Group.{stays_in}
 use Rattle.agreement.specs.Ignored.{AlikeReach, both_begin, both_turn, calls_of}

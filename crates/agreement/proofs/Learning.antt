@@ -1,21 +1,14 @@
 -- The rest of specs/Learning.antt: what stands on a theorem that a must-fail edit makes false.
-use Rattle.std.specs.Prelude.{◌≡◌, refl, true, List, ℕ}
-use Rattle.std.proofs.Common.{sym, ◌∙◌, ap, subst, arith}
+use Rattle.std.specs.Prelude.{◌≡◌, refl, true, ℕ}
+use Rattle.std.proofs.Common.{sym, ◌∙◌, subst, arith}
 use mathlib.Core.List.Memᴰ
-use Rattle.base.specs.Pick.{pick_cases}
-use Rattle.base.specs.Gather.{gather_in}
 use Rattle.base.specs.Among.{◌∈◌}
-use Rattle.replica.specs.declared.Replica.{Replica}
-use Rattle.replica.specs.Record.{Outcome, log_end}
+use Rattle.replica.specs.Record.{Outcome}
 use Rattle.replica.specs.Step.{Call, call_commit_notice, step}
-use Rattle.laws.specs.WaysLeadership.{commit_notice_step_ways}
-use Rattle.agreement.specs.Theorem.{Group, Mark, World, slot_of, rises, mark_at, marks_of, Reach, accept_entry, commit_entry}
-use Rattle.agreement.specs.Frame.{Owns}
+use Rattle.agreement.specs.Theorem.{Group, Mark, World, Reach, accept_entry, commit_entry}
 use Rattle.agreement.specs.Local.{commit_earlier, commit_top}
-use Rattle.agreement.specs.OfMessages.{owns-owns}
 use Rattle.agreement.specs.Group.{view_of, rises_commit}
 use Rattle.agreement.proofs.Group.{framed, inv}
-use Rattle.agreement.specs.Commits.{mark_of}
 use Rattle.agreement.specs.Runs.{three, seven, mark, noticed_world, notice_marks}
 use Rattle.agreement.proofs.Runs.{noticed_reached}
 use Rattle.agreement.specs.Learning.{Learned, MarkAtLargest, MarkedEarlier, NoticeLearns, Raised, mark_raised, marks_by, notice_at}

@@ -1,42 +1,17 @@
 -- The rest of specs/Runs.antt: what stands on a theorem that a must-fail edit makes false.
-use Rattle.std.specs.Prelude.{◌≡◌, refl, Bool, true, false, ◌&&◌, ◌⊎◌, ℕ, zero, suc, ltb, get_or, take, drop, replicate}
+use Rattle.std.specs.Prelude.{◌≡◌, refl, true, ◌⊎◌, ℕ, take}
 use Rattle.std.proofs.Common.{ap, inl, inr, arith}
 use mathlib.Core.List.Memᴰ
-use mathlib.Core.List.{List, [], ◌∷◌, ◌++◌}
+use mathlib.Core.List.{List, [], ◌∷◌}
 use Rattle.base.specs.Pick.{and_left, and_right}
-use Rattle.base.specs.Scan.{scan}
 use Rattle.base.specs.Among.{◌∈◌}
-use Rattle.members.specs.Sets.{has, insert, count, count_in}
 use Rattle.batch.specs.declared.Batch.{Batch}
-use Rattle.batch.specs.Batches.{empty_batch, make_batch}
-use Rattle.batch.specs.Keys.{place_in, note_key, note_keys, new_keys, overfull_in}
-use Rattle.tally.specs.Merge.{merge}
-use Rattle.tally.specs.Open.{find_read, open_read, close_read, put_read, reply_to, fit_reads}
-use Rattle.actions.specs.declared.Action.TheVariants.{CommitNotice, StatusUp}
+use Rattle.batch.specs.Batches.{empty_batch}
+use Rattle.actions.specs.declared.Action.TheVariants.{StatusUp}
 use Rattle.actions.specs.Actions.{Act, bare}
-use Rattle.slots.specs.Slots.{fit_slot}
-use Rattle.decide.specs.Bars.{not_above, least_majority, with_bar, with_fallen}
-use Rattle.decide.specs.Decide.{decide_accept, decide_accept_reply, decide_vote, decide_count, decide_promised, decide_accepted, decide_offer}
-use Rattle.decide.specs.Scalars.{fit_scalars}
-use Rattle.window.specs.Counting.{counts}
-use Rattle.window.specs.Window.{fit_slots, last_used, first_open, last_open, mark_stop, filled}
-use Rattle.window.specs.ByPlace.{at_place}
-use Rattle.replica.specs.declared.Entry.{Entry}
-use Rattle.replica.specs.declared.Entry.TheVariants.{PrepareBal, AcceptData, CommitSlot}
-use Rattle.replica.specs.Record.{new_replica, noting, settled}
-use Rattle.replica.specs.Fit.{fit}
-use Rattle.replica.specs.Messages.{prepare_on, prepare_step, counted_on, voted_on, replied_on, reply_on, prepare_reply_step, accept_step, accept_reply_step}
-use Rattle.replica.specs.Leadership.{lead_on, step_up, timeout_step, mark_on, commit_notice_step}
-use Rattle.replica.specs.Durability.{prepared_done, moved_accept, accepted_done, pass_on, pass_stop, committed_done, logged_on, logged_step}
-use Rattle.replica.specs.Quorumread.{open_read_step, replied_step, read_reply_step}
-use Rattle.replica.specs.Added.{offer_step, moved_exec, executed_step}
-use Rattle.replica.specs.Step.{Call, call_accept, call_commit_notice, call_timeout, call_logged, call_offer, step, received}
-use Rattle.laws.specs.WaysDurability.{completion}
-use Rattle.agreement.specs.BySlot.{numbered}
-use Rattle.agreement.specs.Theorem.{Group, Mark, World, marks_of, upd, put, begin, May, timer, offer, logged, message, Reach, begins, turn, accept_entry, commit_entry}
-use Rattle.agreement.specs.Local.{accept_sent}
-use Rattle.agreement.specs.Written.{line, lines}
-use Rattle.agreement.specs.Runs.{Turn, TwoBatches, all_present, changed, changed_world, deliver, get_d_in, gets, happen, late, late_world, logs, mark, noticed_world, offers, play, seven, thing, three, times, twice, twice_world, two_batches, who}
+use Rattle.replica.specs.Step.{Call, received}
+use Rattle.agreement.specs.Theorem.{Group, Mark, World, begin, timer, offer, logged, message, Reach, begins, turn, accept_entry}
+use Rattle.agreement.specs.Runs.{Turn, all_present, changed, changed_world, deliver, get_d_in, gets, happen, late, late_world, logs, mark, noticed_world, offers, play, seven, thing, three, times, twice, twice_world, two_batches, who}
 
 module _ (g : Group) (w : World) (r : Reach g w) (m : ℕ) (p : g.present m ≡ true) where
   deliver-Reach : (from : ℕ) (a : Act) → a ∈ w.did from → (l : List Call) → ((c : Call) → c ∈ l → c ∈ received from a) → Reach g (deliver w m l)

@@ -1,36 +1,29 @@
 -- The rest of specs/StrictTells.antt: what stands on a theorem that a must-fail edit makes false.
-use Rattle.std.specs.Prelude.{◌≡◌, refl, true, false, List, [], ◌++◌, ◌⊎◌, ℕ, ◌+◌, ◌-◌, ◌≤◌, ◌<◌, ltb}
-use Rattle.std.proofs.Common.{sym, ap, subst, ◌∙◌, inl, inr, le_refl, arith, ltb-false}
+use Rattle.std.specs.Prelude.{◌≡◌, refl, true, false, List, [], ◌++◌, ◌⊎◌, ℕ, ◌+◌, ◌-◌, ◌≤◌, ltb}
+use Rattle.std.proofs.Common.{sym, ap, subst, ◌∙◌, inl, inr, arith, ltb-false}
 use mathlib.Core.List.Memᴰ
-use Rattle.base.specs.Pick.{pick_both, pick_cases}
+use Rattle.base.specs.Pick.{pick_cases}
 use Rattle.base.specs.Among.{◌∈◌}
 use Rattle.actions.specs.declared.Promised.{Promised}
-use Rattle.actions.specs.declared.Accepted.{Accepted}
-use Rattle.actions.specs.declared.Action.{Action}
-use Rattle.actions.specs.declared.Action.TheVariants.{PrepareBal, AcceptData, CommitSlot, Prepare, PrepareReply, Accept, AcceptReply, CommitNotice, Heartbeat, StatusUp, StatusDown, Execute, ReadAnswer}
+use Rattle.actions.specs.declared.Action.TheVariants.{PrepareReply}
 use Rattle.actions.specs.Actions.{Act, act}
 use Rattle.slots.specs.declared.Vote.{Vote}
 use Rattle.slots.specs.declared.Slot.{Slot}
-use Rattle.slots.specs.Slots.{no_vote}
 use Rattle.decide.specs.Scalars.{leads, strict}
 use Rattle.decide.specs.Decide.{sent_vote}
 use Rattle.window.specs.Window.{no_slots}
 use Rattle.window.specs.ByPlace.{at_place, at_past}
 use Rattle.replica.specs.declared.Replica.{Replica}
-use Rattle.replica.specs.declared.Done.{Done}
 use Rattle.replica.specs.declared.Entry.TheVariants.{PrepareBal as PrepareEntry, AcceptData as AcceptEntry}
-use Rattle.replica.specs.Record.{Outcome, place, log_end, fresh}
+use Rattle.replica.specs.Record.{Outcome, place, fresh}
 use Rattle.replica.specs.Step.{Call, call_logged, step}
 use Rattle.laws.proofs.Theorems.{start_stays}
 use Rattle.laws.specs.WaysDurability.{completion, logged_at}
-use Rattle.voting.specs.Below.{Below, Below-step, Below-new}
-use Rattle.voting.specs.Votes.{vote_of}
+use Rattle.voting.specs.Below.{Below, Below-step}
 use Rattle.voting.specs.StrictVotes.{entry_of, VoteTurn, strict_votes}
 use Rattle.voting.specs.Telling.{Tells, told_same, promise_tells}
-use Rattle.voting.specs.Logging.{own_answer}
 use Rattle.voting.specs.Speaking.{replies_on_completion}
-use Rattle.agreement.specs.BySlot.{numbered, numbered_at}
-use Rattle.agreement.specs.Theorem.{Group, World, slot_of, begin, Reach, begins, turn}
+use Rattle.agreement.specs.Theorem.{Group, World, begin, Reach, begins, turn}
 use Rattle.agreement.specs.Frame.{Frame}
 use Rattle.agreement.specs.Local.{new}
 use Rattle.agreement.specs.Group.{view_of, each, made_fresh}

@@ -1,47 +1,20 @@
 -- The rest of specs/Truth.antt: what stands on a theorem that a must-fail edit makes false.
-use Rattle.std.specs.Prelude.{◌≡◌, refl, Bool, true, false, ◌&&◌, ◌⊎◌, ℕ, eqb, take}
-use Rattle.std.proofs.Common.{sym, subst, inl, inr, eqb-true}
+use Rattle.std.specs.Prelude.{◌≡◌, refl, true, ◌⊎◌, ℕ}
+use Rattle.std.proofs.Common.{sym, subst, inl, inr}
 use mathlib.Core.List.Memᴰ
 use mathlib.Core.List.{List, [], ◌∷◌}
-use Rattle.base.specs.Scan.{scan}
-use Rattle.members.specs.Sets.{has, insert, count, count_in}
-use Rattle.batch.specs.Keys.{place_in, note_key, note_keys, new_keys, overfull_in}
-use Rattle.tally.specs.Merge.{merge}
-use Rattle.tally.specs.Open.{find_read, open_read, close_read, put_read, reply_to, fit_reads}
-use Rattle.slots.specs.Slots.{fit_slot}
-use Rattle.decide.specs.Bars.{not_above, least_majority, with_bar, with_fallen}
-use Rattle.decide.specs.Decide.{decide_accept, decide_accept_reply, decide_vote, decide_count, decide_promised, decide_accepted, decide_offer}
-use Rattle.decide.specs.Scalars.{fit_scalars}
-use Rattle.window.specs.Counting.{counts}
-use Rattle.window.specs.Window.{fit_slots, last_used, first_open, last_open, mark_stop, filled}
-use Rattle.window.specs.ByPlace.{at_place}
-use Rattle.replica.specs.Record.{new_replica, noting, settled}
-use Rattle.replica.specs.Fit.{fit}
-use Rattle.replica.specs.Messages.{prepare_on, prepare_step, counted_on, voted_on, replied_on, reply_on, prepare_reply_step, accept_step, accept_reply_step}
-use Rattle.replica.specs.Leadership.{lead_on, step_up, timeout_step, mark_on, commit_notice_step}
-use Rattle.replica.specs.Durability.{prepared_done, moved_accept, accepted_done, pass_on, pass_stop, committed_done, logged_on, logged_step}
-use Rattle.replica.specs.Quorumread.{open_read_step, replied_step, read_reply_step}
-use Rattle.replica.specs.Added.{offer_step, moved_exec, executed_step}
 use Rattle.base.specs.Pick.{and_left, and_right}
 use Rattle.base.specs.Among.{◌∈◌}
-use Rattle.batch.specs.Batches.{make_batch}
-use Rattle.actions.specs.declared.Action.{Action}
-use Rattle.actions.specs.declared.Accepted.{Accepted}
-use Rattle.actions.specs.declared.Action.TheVariants.{PrepareBal, AcceptData, CommitSlot, Prepare, PrepareReply, Accept, AcceptReply, CommitNotice, Heartbeat, StatusUp, StatusDown, Execute, ReadAnswer}
+use Rattle.actions.specs.declared.Action.TheVariants.{StatusUp}
 use Rattle.actions.specs.Actions.{Act, bare}
-use Rattle.replica.specs.declared.Replica.{Replica}
-use Rattle.replica.specs.Step.{Call, call_timeout, call_logged, call_offer, call_accept_reply, step, received}
-use Rattle.laws.specs.WaysDurability.{completion}
+use Rattle.replica.specs.Step.{Call, step, received}
 use Rattle.voting.specs.Paper.{Chosen}
-use Rattle.voting.specs.Quorums.{commit_of}
-use Rattle.agreement.specs.BySlot.{numbered}
-use Rattle.agreement.specs.Theorem.{Group, World, slot_of, marks_of, upd, put, begin, May, timer, offer, logged, message, Reach, begins, turn}
-use Rattle.agreement.specs.Runs.{Turn, times, offers, logs, gets, who, does, deliver, thing, happen, play, all_present, get_d_in, further, three, changed, late}
-use Rattle.agreement.specs.Acks.{Truthful}
+use Rattle.agreement.specs.Theorem.{Group, World, begin, May, timer, offer, logged, message, begins, turn}
+use Rattle.agreement.specs.Runs.{Turn, times, offers, logs, gets, who, does, deliver, thing, happen, play, all_present, get_d_in, three}
 use Rattle.agreement.specs.Worlds.{IsAccepted}
 use Rattle.agreement.specs.ChosenIf.{proposal_at}
 use Rattle.agreement.proofs.ChosenIf.{commit_chosen}
-use Rattle.agreement.specs.Truth.{TrueReach, commit_met, commit_world, fair, fair_call, fair_calls, fair_facts, fair_run, fair_turn, last_reply, one_present, reply_was_sent, until_commit, until_fair, until_present}
+use Rattle.agreement.specs.Truth.{TrueReach, commit_met, commit_world, fair_call, fair_calls, fair_facts, fair_run, fair_turn, last_reply, one_present, reply_was_sent, until_commit, until_fair, until_present}
 
 module _ (g : Group) (w : World) (r : TrueReach g w) (m : ℕ) (p : g.present m ≡ true) where
   one_turn : (c : Call) → May w m 3456 c → fair_call w m c ≡ true → TrueReach g (does w m c)

@@ -1,18 +1,14 @@
 -- The rest of specs/Unsafe.antt: what stands on a theorem that a must-fail edit makes false.
-use Rattle.std.specs.Prelude.{◌≡◌, refl, true, List, ◌⊎◌, ℕ, zero, suc, ◌≤◌, ◌<◌}
-use Rattle.std.proofs.Common.{sym, ap, subst, inl, inr, arith}
+use Rattle.std.specs.Prelude.{◌≡◌, refl, true, ◌⊎◌, ℕ, zero, suc, ◌≤◌, ◌<◌}
+use Rattle.std.proofs.Common.{ap, inl, inr, arith}
 use mathlib.Core.List.Memᴰ
-use Rattle.base.specs.Pick.{clash}
-use Rattle.base.specs.Among.{◌∈◌, All, All-in}
-use Rattle.members.specs.Sets.{has, count, count_in}
+use Rattle.members.specs.Sets.{has}
 use Rattle.members.specs.Laws.{within_below}
 use Rattle.batch.specs.declared.Batch.{Batch}
 use Rattle.batch.specs.Batches.{empty_batch}
-use Rattle.actions.specs.Actions.{Act}
 use Rattle.slots.specs.declared.Vote.{Vote}
-use Rattle.voting.specs.Paper.{Majority, majorities_meet, Chosen, OnlyOne, OnlyChosenLearned, P2, AcceptedBelow, P2c}
-use Rattle.agreement.specs.Theorem.{Mark, World, Reach, accept_entry}
-use Rattle.agreement.specs.Written.{Line, line, lines, lines_in}
+use Rattle.voting.specs.Paper.{Majority, majorities_meet, Chosen, OnlyOne, OnlyChosenLearned, P2, P2c}
+use Rattle.agreement.specs.Theorem.{World, Reach}
 use Rattle.agreement.specs.Runs.{three, seven, mark, late_world, two_batches, late_entries, twice_world, twice_entries}
 use Rattle.agreement.proofs.Runs.{late_reached, twice_reached}
 use Rattle.agreement.specs.Worlds.{IsAccepted, IsIssued, IsLearned}

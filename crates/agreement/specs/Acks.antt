@@ -1,7 +1,7 @@
 -- 2.2: what stands behind a commit. Each member in accept_acks of a slot that a leader commits by replies has sent an AcceptReply for this slot at this
 -- ballot, or is the leader itself; and the batch is chosen, as the paper has it, where each such reply came from a slot that was Accepting then.
-use Rattle.std.specs.Prelude.{◌≡◌, refl, Bool, true, false, List, ◌⊎◌, ℕ, ◌+◌, ltb}
-use Rattle.std.proofs.Common.{sym, ap, subst, ◌∙◌, inl, inr, arith, ltb-true, ne_eqb}
+use Rattle.std.specs.Prelude.{◌≡◌, refl, Bool, true, false, List, ◌⊎◌, ℕ, ltb}
+use Rattle.std.proofs.Common.{ap, subst, ◌∙◌, inl, inr, arith, ltb-true, ne_eqb}
 use mathlib.Core.List.Memᴰ
 use Rattle.base.specs.Pick.{pick_cases, and_both, clash}
 use Rattle.base.specs.Among.{◌∈◌}
@@ -16,13 +16,12 @@ use Rattle.slots.specs.Slots.{accepting}
 use Rattle.decide.specs.Scalars.{leads, may_be}
 use Rattle.replica.specs.declared.Replica.{Replica}
 use Rattle.replica.specs.declared.Made.{Made}
-use Rattle.replica.specs.Record.{Outcome, new_replica, fresh, zero_replica, number}
+use Rattle.replica.specs.Record.{new_replica, fresh, zero_replica, number}
 use Rattle.replica.specs.Step.{Call, call_prepare, call_prepare_reply, call_accept, call_accept_reply, call_commit_notice, call_timeout, call_logged, call_offer, call_executed, call_open_read, call_read_reply, step, received}
-use Rattle.laws.proofs.Theorems.{refusals_keep, start_stays}
-use Rattle.voting.specs.Reached.{Good, good_new, Good-step}
-use Rattle.voting.specs.Backing.{stands, Stood, AcceptAck, accept_came, accept_own, acks_step}
-use Rattle.agreement.specs.Theorem.{Group, World, slot_of, put, begin, May, timer, offer, logged, execution, opening, replied, message, refused, Reach, begins, turn}
-use Rattle.agreement.specs.Group.{each, old}
+use Rattle.laws.proofs.Theorems.{refusals_keep}
+use Rattle.voting.specs.Reached.{Good, good_new}
+use Rattle.voting.specs.Backing.{stands, Stood, AcceptAck, accept_came, accept_own}
+use Rattle.agreement.specs.Theorem.{Group, World, slot_of, begin, May, timer, offer, logged, execution, opening, replied, message, refused, Reach, begins, turn}
 
 -- ── what is said ──
 -- member p has sent an AcceptReply for slot s at this ballot

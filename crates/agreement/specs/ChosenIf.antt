@@ -1,33 +1,18 @@
 -- 2.2: a batch that a leader commits by replies, or by its own completion, is chosen where the run is truthful: then a majority has its accept entry.
-use Rattle.std.specs.Prelude.{◌≡◌, refl, true, List, ◌⊎◌, ℕ, ◌-◌, ◌≤◌}
-use Rattle.std.proofs.Common.{sym, ap, subst, ◌∙◌, inl, inr, arith}
-use mathlib.Core.List.Memᴰ
-use Rattle.base.specs.Among.{◌∈◌, All-in}
+use Rattle.std.specs.Prelude.{◌≡◌, true, ◌⊎◌, ℕ}
+use Rattle.base.specs.Among.{◌∈◌}
 use Rattle.members.specs.Sets.{has}
 use Rattle.batch.specs.declared.Batch.{Batch}
-use Rattle.actions.specs.declared.Action.{Action}
-use Rattle.actions.specs.Actions.{Act}
 use Rattle.slots.specs.declared.Vote.{Vote}
-use Rattle.slots.specs.declared.Slot.{Slot}
-use Rattle.window.specs.declared.Window.{Window}
-use Rattle.window.specs.ByPlace.{at_place}
-use Rattle.replica.specs.declared.Replica.{Replica}
 use Rattle.replica.specs.declared.Entry.TheVariants.{AcceptData}
-use Rattle.replica.specs.Record.{Outcome, place, number}
-use Rattle.replica.specs.Step.{Call, call_accept_reply, call_logged, step}
-use Rattle.laws.proofs.Theorems.{refusals_silent, group_stays}
+use Rattle.replica.specs.Record.{place}
+use Rattle.replica.specs.Step.{call_accept_reply, call_logged, step}
 use Rattle.laws.specs.WaysDurability.{completion}
-use Rattle.voting.specs.Paper.{Majority, Chosen}
-use Rattle.voting.specs.Quorums.{commit_of, acks_of, Committed, commit_is_at, commit_by_reply, commit_by_own}
-use Rattle.voting.specs.Backing.{insert_or}
-use Rattle.voting.specs.Speaking.{SaidOf, OnCompletion, says_ok}
-use Rattle.agreement.specs.BySlot.{numbered_place}
-use Rattle.agreement.specs.Theorem.{Group, World, slot_of, put, begin, May, Reach, begins, turn, accept_entry}
-use Rattle.agreement.specs.Frame.{Marked, ActOk}
-use Rattle.agreement.specs.Group.{view_of, old, cases, Agreement-of}
-use Rattle.agreement.specs.Commits.{numbered_here}
+use Rattle.voting.specs.Paper.{Chosen}
+use Rattle.voting.specs.Quorums.{commit_of, acks_of}
+use Rattle.agreement.specs.Theorem.{Group, World, slot_of, May, Reach, accept_entry}
 use Rattle.agreement.specs.Worlds.{IsAccepted}
-use Rattle.agreement.specs.Acks.{HasReplied, Truthful, reply_sent}
+use Rattle.agreement.specs.Acks.{HasReplied, Truthful}
 
 -- ── what is said ──
 -- the proposal that slot s of member l holds: its ballot and batch

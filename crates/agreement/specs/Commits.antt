@@ -15,10 +15,8 @@ use Rattle.window.specs.declared.Window.{Window}
 use Rattle.window.specs.ByPlace.{at_place, at_present}
 use Rattle.replica.specs.declared.Replica.{Replica}
 use Rattle.replica.specs.Record.{Outcome, log_end}
-use Rattle.replica.specs.Step.{Call, step}
 use Rattle.agreement.specs.BySlot.{numbered}
-use Rattle.agreement.specs.Theorem.{Group, Mark, World, slot_of, rises, mark_at, marks_of, put, begin, May, Reach, begins, turn, accept_entry, commit_entry}
-use Rattle.agreement.specs.Group.{each, rises_commit, commit_rises, commit_earlier_in, accept_was_sent}
+use Rattle.agreement.specs.Theorem.{Group, Mark, World, slot_of, rises, mark_at, marks_of, begin, accept_entry, commit_entry}
 
 -- an action that is an accept entry is one for its slot, ballot and batch
 pub any_entry : (a : Act) (p : Proposal) → a.what ≡ AcceptData p → a ≡ accept_entry p.slot p.ballot (record { id = p.batch; count = p.count; keys = a.keys })

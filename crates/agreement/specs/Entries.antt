@@ -1,16 +1,10 @@
 -- What a log holds, whatever the calls: each log action's slot is one of the 64 from the group's start on, an accept entry's batch is clean, and prepare
 -- and commit entries have no keys.
-use Rattle.std.specs.Prelude.{◌≡◌, true, ℕ}
-use Rattle.std.proofs.Common.{subst}
-use Rattle.base.specs.Among.{◌∈◌, All, All-in, All-append, All-map}
-use Rattle.batch.specs.declared.Batch.{Batch}
+use Rattle.std.specs.Prelude.{ℕ}
+use Rattle.base.specs.Among.{All}
 use Rattle.actions.specs.Actions.{Act}
-use Rattle.replica.specs.declared.Replica.{Replica}
-use Rattle.replica.specs.Record.{Outcome}
-use Rattle.replica.specs.Step.{step}
-use Rattle.agreement.specs.Theorem.{Group, World, begin, Reach, begins, turn, accept_entry}
-use Rattle.agreement.specs.Frame.{Clean, InWindow, Loggable, ActOk}
-use Rattle.agreement.specs.Group.{view_of, each}
+use Rattle.agreement.specs.Theorem.{Group, World, begin, Reach}
+use Rattle.agreement.specs.Frame.{Loggable}
 
 abbrev pub EntryOk : ℕ → Act → Type 0
 EntryOk start a = Loggable start a.keys a.what

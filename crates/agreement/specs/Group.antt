@@ -1,5 +1,5 @@
 -- The group: the few facts that name two members, and the proof of the theorem.
-use Rattle.std.specs.Prelude.{◌≡◌, Bool, true, false, ◌&&◌, List, [], ◌++◌, ◌⊎◌, ℕ, ◌+◌, ◌%◌, ◌≤◌, ◌<◌, ltb, leb, eqb}
+use Rattle.std.specs.Prelude.{◌≡◌, Bool, true, false, ◌&&◌, List, [], ◌++◌, ◌⊎◌, ℕ, ◌%◌, ◌≤◌, ◌<◌, ltb, leb, eqb}
 use Rattle.std.proofs.Math.Path.{refl, subst}
 use Rattle.std.proofs.Common.{sym, ◌∙◌, ap, inl, inr, arith, ltb-true, leb-true, eq-eqb, ne_eqb, lt-ltb, le-leb}
 use mathlib.Core.List.Memᴰ
@@ -23,10 +23,9 @@ use Rattle.replica.specs.Record.{Outcome, new_replica, fresh, zero_replica, log_
 use Rattle.replica.specs.Messages.{clean}
 use Rattle.replica.specs.Step.{Call, call_prepare, call_prepare_reply, call_accept, call_accept_reply, call_commit_notice, call_timeout, call_logged, call_offer, call_executed, call_open_read, call_read_reply, step, received}
 use Rattle.agreement.specs.BySlot.{by_place}
-use Rattle.agreement.specs.Theorem.{Group, Mark, World, slot_of, rises, mark_at, marks_of, upd, put, begin, May, timer, offer, logged, execution, opening, replied, message, refused, Reach, begins, turn, ballots, NeverFalls, accept_entry, commit_entry, Agreement, Theorem}
+use Rattle.agreement.specs.Theorem.{Group, Mark, World, slot_of, rises, mark_at, marks_of, upd, put, begin, May, timer, offer, logged, execution, opening, replied, message, refused, ballots, NeverFalls, accept_entry, commit_entry, Agreement}
 use Rattle.agreement.specs.Frame.{View, view, Owns, Why, led, told, Wrote, Marked, ActOk, Frame}
 use Rattle.agreement.specs.Good.{GoodSlot, GoodReplica}
-use Rattle.agreement.specs.Calls.{step-Ok}
 use Rattle.agreement.specs.Local.{accept_sent, Local, Local-start, Local-step, commit_earlier, subst₂}
 
 abbrev pub view_of : Replica → View

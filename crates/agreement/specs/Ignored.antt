@@ -1,14 +1,9 @@
 -- 02, Wish 5, over a group's worlds: two runs of one group of base replicas whose completions differ only in the ballot lead to the same world, so to the same replicas,
 -- logs, messages and marks.
-use Rattle.std.specs.Prelude.{◌≡◌, refl, true, false, List, [], ◌∷◌, map, ℕ}
-use Rattle.std.proofs.Common.{◌∙◌, ap, subst}
-use Rattle.decide.specs.Scalars.{strict}
-use Rattle.replica.specs.declared.Replica.{Replica}
-use Rattle.replica.specs.declared.Done.{Done}
-use Rattle.replica.specs.Step.{Call, call_prepare, call_prepare_reply, call_accept, call_accept_reply, call_commit_notice, call_timeout, call_logged, call_offer, call_executed, call_open_read, call_read_reply, step}
-use Rattle.laws.proofs.Theorems.{kind_stays}
-use Rattle.laws.specs.BallotIgnored.{Alike, ballot_ignored, saying, saying-Alike}
-use Rattle.agreement.specs.Theorem.{Group, World, put, begin, May, logged, Reach, begins, turn}
+use Rattle.std.specs.Prelude.{◌≡◌, true, List, [], ◌∷◌, ℕ}
+use Rattle.replica.specs.Step.{Call, step}
+use Rattle.laws.specs.BallotIgnored.{Alike}
+use Rattle.agreement.specs.Theorem.{Group, World, put, begin, May, Reach, begins, turn}
 
 -- two runs that are alike turn by turn: the same member, the same room, and calls that are alike
 pub data AlikeReach (g : Group) : (w w' : World) → Reach g w → Reach g w' → Type 0 where

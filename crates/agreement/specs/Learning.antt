@@ -1,7 +1,7 @@
 -- Learning (the paper's 2.3): what a mark rests on. The statements stand first, each of every present member of every reachable world and of
 -- every call, also one that may not happen; their proofs stand below.
 use Rattle.std.specs.Prelude.{◌≡◌, refl, true, List, ℕ}
-use Rattle.std.proofs.Common.{sym, ◌∙◌, ap, subst, arith}
+use Rattle.std.proofs.Common.{sym, subst}
 use mathlib.Core.List.Memᴰ
 use Rattle.base.specs.Pick.{pick_cases}
 use Rattle.base.specs.Gather.{gather_in}
@@ -12,11 +12,8 @@ use Rattle.replica.specs.Step.{Call, call_commit_notice, step}
 use Rattle.laws.specs.WaysLeadership.{commit_notice_step_ways}
 use Rattle.agreement.specs.Theorem.{Group, Mark, World, slot_of, rises, mark_at, marks_of, Reach, accept_entry, commit_entry}
 use Rattle.agreement.specs.Frame.{Owns}
-use Rattle.agreement.specs.Local.{commit_earlier, commit_top}
 use Rattle.agreement.specs.OfMessages.{owns-owns}
-use Rattle.agreement.specs.Group.{view_of, rises_commit}
 use Rattle.agreement.specs.Commits.{mark_of}
-use Rattle.agreement.specs.Runs.{three, seven, mark, noticed_world, notice_marks}
 
 -- the marks that a call at member m makes
 abbrev pub marks_by : World → ℕ → ℕ → Call → List Mark

@@ -3,13 +3,11 @@
 use Rattle.std.specs.Prelude.{◌≡◌, refl, Bool, true, false, List, ◌⊎◌, ℕ, zero, suc, ◌<◌}
 use Rattle.std.proofs.Common.{sym, arith}
 use Rattle.std.proofs.Math.Path.{subst}
-use mathlib.Core.List.Memᴰ
 use Rattle.std.proofs.Math.Logic.{inl, inr}
 use Rattle.base.specs.Pick.{pick_both, decide}
-use Rattle.base.specs.Among.{◌∈◌, All, All-in, All-append, All-map}
+use Rattle.base.specs.Among.{◌∈◌, All, All-map}
 use Rattle.members.specs.Sets.{has, count, count_in}
 use Rattle.batch.specs.declared.Batch.{Batch}
-use Rattle.batch.specs.Batches.{empty_batch, make_batch}
 use Rattle.actions.specs.declared.Action.{Action}
 use Rattle.actions.specs.declared.Action.TheVariants.{PrepareBal, AcceptData, CommitSlot, Prepare, PrepareReply, Accept, AcceptReply, CommitNotice, Heartbeat, StatusUp, StatusDown, Execute, ReadAnswer}
 use Rattle.actions.specs.Actions.{Act}
@@ -19,14 +17,10 @@ use Rattle.window.specs.Window.{no_slots}
 use Rattle.window.specs.ByPlace.{at_past}
 use Rattle.replica.specs.declared.Made.{Made}
 use Rattle.replica.specs.Record.{new_replica}
-use Rattle.replica.specs.Messages.{clean}
-use Rattle.replica.specs.Step.{Call, step, received}
 use Rattle.voting.specs.Paper.{Majority, OnlyProposed}
-use Rattle.agreement.specs.Theorem.{Group, Mark, World, put, begin, May, timer, offer, logged, execution, opening, replied, message, refused, Reach, begins, turn, accept_entry}
-use Rattle.agreement.specs.OfMessages.{clean-clean}
-use Rattle.agreement.specs.Group.{MarkOk, each}
+use Rattle.agreement.specs.Theorem.{Group, Mark, World, begin, Reach, begins, accept_entry}
 use Rattle.agreement.specs.Worlds.{IsAccepted, Proposed}
-use Rattle.agreement.specs.Carried.{SlotIn, WindowIn, SaysIn, ActIn, CallIn, OutcomeIn, step_in}
+use Rattle.agreement.specs.Carried.{SlotIn, WindowIn, SaysIn, ActIn}
 
 -- ── the statements ──
 abbrev pub ProposedOnly : Type 0

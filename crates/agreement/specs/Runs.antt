@@ -1,9 +1,8 @@
 -- Runs of a group of three, by computation: the theorem is about something, and demand 3 does not promise more than it says.
 use Rattle.std.specs.Prelude.{◌≡◌, refl, Bool, true, false, ◌&&◌, ◌⊎◌, ℕ, zero, suc, ltb, get_or, take, drop, replicate}
-use Rattle.std.proofs.Common.{ap, inl, inr, arith}
+use Rattle.std.proofs.Common.{inl, inr}
 use mathlib.Core.List.Memᴰ
 use mathlib.Core.List.{List, [], ◌∷◌, ◌++◌}
-use Rattle.base.specs.Pick.{and_left, and_right}
 use Rattle.base.specs.Scan.{scan}
 use Rattle.base.specs.Among.{◌∈◌}
 use Rattle.members.specs.Sets.{has, insert, count, count_in}
@@ -33,7 +32,7 @@ use Rattle.replica.specs.Added.{offer_step, moved_exec, executed_step}
 use Rattle.replica.specs.Step.{Call, call_accept, call_commit_notice, call_timeout, call_logged, call_offer, step, received}
 use Rattle.laws.specs.WaysDurability.{completion}
 use Rattle.agreement.specs.BySlot.{numbered}
-use Rattle.agreement.specs.Theorem.{Group, Mark, World, marks_of, upd, put, begin, May, timer, offer, logged, message, Reach, begins, turn, accept_entry, commit_entry}
+use Rattle.agreement.specs.Theorem.{Group, Mark, World, marks_of, upd, put, begin, May, message, accept_entry, commit_entry}
 use Rattle.agreement.specs.Local.{accept_sent}
 use Rattle.agreement.specs.Written.{line, lines}
 

@@ -25,8 +25,8 @@ use Rattle.replica.specs.Durability.{prepared_done, moved_accept, accepted_done,
 use Rattle.replica.specs.Quorumread.{open_read_step, replied_step, read_reply_step}
 use Rattle.replica.specs.Added.{offer_step, moved_exec, executed_step}
 use Rattle.agreement.specs.BySlot.{numbered}
-use Rattle.agreement.specs.Theorem.{Group, World, marks_of, upd, put, begin, Reach, begins, accept_entry}
-use Rattle.agreement.specs.Runs.{play, happen, deliver, all_present, seven, changed, late, further, ThreeMarked}
+use Rattle.agreement.specs.Theorem.{Group, World, marks_of, upd, put, begin, accept_entry}
+use Rattle.agreement.specs.Runs.{play, happen, deliver, seven, changed, late, further, ThreeMarked}
 
 -- ── three strict members, all present, start 0, urgent commit notices ──
 pub strict_made : (m : ℕ) → ltb m 3 ≡ true → (new_replica m 3 0 5).answer ≡ 0

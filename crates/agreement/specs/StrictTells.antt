@@ -1,10 +1,9 @@
 -- 02, Wish 6, what a strict member tells, over every run of a group of strict replicas: a reply comes from the completion of an entry at its own ballot,
 -- and a vote that a PrepareReply tells is the highest-numbered accept entry that the member ever wrote for the slot, as a leader too. "Paxos Made Simple",
 -- 2.2, phase 1 (b): "the highest-numbered proposal (if any) that it has accepted".
-use Rattle.std.specs.Prelude.{◌≡◌, refl, true, false, List, [], ◌++◌, ◌⊎◌, ℕ, ◌+◌, ◌-◌, ◌≤◌, ◌<◌, ltb}
-use Rattle.std.proofs.Common.{sym, ap, subst, ◌∙◌, inl, inr, le_refl, arith, ltb-false}
-use mathlib.Core.List.Memᴰ
-use Rattle.base.specs.Pick.{pick_both, pick_cases}
+use Rattle.std.specs.Prelude.{◌≡◌, true, List, ◌⊎◌, ℕ, ◌+◌, ◌-◌, ◌≤◌, ◌<◌, ltb}
+use Rattle.std.proofs.Common.{sym, ap, ◌∙◌, le_refl, arith}
+use Rattle.base.specs.Pick.{pick_both}
 use Rattle.base.specs.Among.{◌∈◌}
 use Rattle.actions.specs.declared.Promised.{Promised}
 use Rattle.actions.specs.declared.Accepted.{Accepted}
@@ -14,28 +13,20 @@ use Rattle.actions.specs.Actions.{Act, act}
 use Rattle.slots.specs.declared.Vote.{Vote}
 use Rattle.slots.specs.declared.Slot.{Slot}
 use Rattle.slots.specs.Slots.{no_vote}
-use Rattle.decide.specs.Scalars.{leads, strict}
 use Rattle.decide.specs.Decide.{sent_vote}
-use Rattle.window.specs.Window.{no_slots}
-use Rattle.window.specs.ByPlace.{at_place, at_past}
+use Rattle.window.specs.ByPlace.{at_place}
 use Rattle.replica.specs.declared.Replica.{Replica}
 use Rattle.replica.specs.declared.Done.{Done}
 use Rattle.replica.specs.declared.Entry.TheVariants.{PrepareBal as PrepareEntry, AcceptData as AcceptEntry}
-use Rattle.replica.specs.Record.{Outcome, place, log_end, fresh}
+use Rattle.replica.specs.Record.{place, log_end}
 use Rattle.replica.specs.Step.{Call, call_logged, step}
-use Rattle.laws.proofs.Theorems.{start_stays}
-use Rattle.laws.specs.WaysDurability.{completion, logged_at}
-use Rattle.voting.specs.Below.{Below, Below-step, Below-new}
+use Rattle.laws.specs.WaysDurability.{completion}
+use Rattle.voting.specs.Below.{Below, Below-new}
 use Rattle.voting.specs.Votes.{vote_of}
-use Rattle.voting.specs.StrictVotes.{entry_of, VoteTurn, strict_votes}
-use Rattle.voting.specs.Telling.{Tells, told_same, promise_tells}
+use Rattle.voting.specs.StrictVotes.{entry_of}
 use Rattle.voting.specs.Logging.{own_answer}
-use Rattle.voting.specs.Speaking.{replies_on_completion}
 use Rattle.agreement.specs.BySlot.{numbered, numbered_at}
-use Rattle.agreement.specs.Theorem.{Group, World, slot_of, begin, Reach, begins, turn}
-use Rattle.agreement.specs.Frame.{Frame}
-use Rattle.agreement.specs.Local.{new}
-use Rattle.agreement.specs.Group.{view_of, each, made_fresh}
+use Rattle.agreement.specs.Theorem.{Group, World, slot_of, begin, Reach}
 
 -- v is none, or was accepted for slot s in a log h, and nothing higher was
 pub record HighestAccepted (h : List Act) (s : ℕ) (v : Vote) : Type 0 where

@@ -1,6 +1,6 @@
 -- The condition of ChosenIf is met by a run with a change of leader, and not by the run that marks one slot twice: computed.
-use Rattle.std.specs.Prelude.{◌≡◌, refl, Bool, true, false, ◌&&◌, ◌⊎◌, ℕ, eqb, take}
-use Rattle.std.proofs.Common.{sym, subst, inl, inr, eqb-true}
+use Rattle.std.specs.Prelude.{◌≡◌, refl, Bool, true, false, ◌&&◌, ℕ, eqb, take}
+use Rattle.std.proofs.Common.{sym, subst, eqb-true}
 use mathlib.Core.List.Memᴰ
 use mathlib.Core.List.{List, [], ◌∷◌}
 use Rattle.base.specs.Scan.{scan}
@@ -32,14 +32,11 @@ use Rattle.actions.specs.Actions.{Act, bare}
 use Rattle.replica.specs.declared.Replica.{Replica}
 use Rattle.replica.specs.Step.{Call, call_timeout, call_logged, call_offer, call_accept_reply, step, received}
 use Rattle.laws.specs.WaysDurability.{completion}
-use Rattle.voting.specs.Paper.{Chosen}
 use Rattle.voting.specs.Quorums.{commit_of}
 use Rattle.agreement.specs.BySlot.{numbered}
-use Rattle.agreement.specs.Theorem.{Group, World, slot_of, marks_of, upd, put, begin, May, timer, offer, logged, message, Reach, begins, turn}
-use Rattle.agreement.specs.Runs.{Turn, times, offers, logs, gets, who, does, deliver, thing, happen, play, all_present, get_d_in, further, three, changed, late}
+use Rattle.agreement.specs.Theorem.{Group, World, slot_of, marks_of, upd, put, begin, Reach}
+use Rattle.agreement.specs.Runs.{Turn, times, offers, logs, gets, deliver, thing, happen, play, all_present, further, three, changed, late}
 use Rattle.agreement.specs.Acks.{Truthful}
-use Rattle.agreement.specs.Worlds.{IsAccepted}
-use Rattle.agreement.specs.ChosenIf.{proposal_at}
 
 -- ── the condition as a test ──
 abbrev pub fair_one : Replica → Action → Bool

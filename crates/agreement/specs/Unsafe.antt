@@ -1,21 +1,19 @@
 -- What the paper asks of a group and the base does not keep, each refuted by a run of three members (Runs). The main difference from the paper:
 -- one slot can be marked with two batches, where no majority ever accepted one of them.
-use Rattle.std.specs.Prelude.{◌≡◌, refl, true, List, ◌⊎◌, ℕ, zero, suc, ◌≤◌, ◌<◌}
-use Rattle.std.proofs.Common.{sym, ap, subst, inl, inr, arith}
-use mathlib.Core.List.Memᴰ
+use Rattle.std.specs.Prelude.{◌≡◌, refl, true, List, ℕ, zero, suc, ◌<◌}
+use Rattle.std.proofs.Common.{sym, subst, arith}
 use Rattle.base.specs.Pick.{clash}
 use Rattle.base.specs.Among.{◌∈◌, All, All-in}
 use Rattle.members.specs.Sets.{has, count, count_in}
 use Rattle.members.specs.Laws.{within_below}
 use Rattle.batch.specs.declared.Batch.{Batch}
-use Rattle.batch.specs.Batches.{empty_batch}
 use Rattle.actions.specs.Actions.{Act}
 use Rattle.slots.specs.declared.Vote.{Vote}
-use Rattle.voting.specs.Paper.{Majority, majorities_meet, Chosen, OnlyOne, OnlyChosenLearned, P2, AcceptedBelow, P2c}
-use Rattle.agreement.specs.Theorem.{Mark, World, Reach, accept_entry}
+use Rattle.voting.specs.Paper.{Majority, Chosen, AcceptedBelow}
+use Rattle.agreement.specs.Theorem.{Mark, World, accept_entry}
 use Rattle.agreement.specs.Written.{Line, line, lines, lines_in}
-use Rattle.agreement.specs.Runs.{three, seven, mark, late_world, two_batches, late_entries, twice_world, twice_entries}
-use Rattle.agreement.specs.Worlds.{IsAccepted, IsIssued, IsLearned}
+use Rattle.agreement.specs.Runs.{late_world}
+use Rattle.agreement.specs.Worlds.{IsAccepted}
 
 abbrev pub vote : ℕ → Batch → Vote
 vote ballot b = record { ballot = ballot; batch = b }

@@ -5,13 +5,11 @@ use Rattle.base.specs.Among.{◌∈◌, All-in}
 use Rattle.actions.specs.declared.Order.{Order}
 use Rattle.actions.specs.declared.Action.TheVariants.{Execute}
 use Rattle.replica.specs.declared.Done.{Done}
-use Rattle.replica.specs.Step.{Call}
 use Rattle.voting.specs.Paper.{OnlyOne, OnlyChosenLearned, P2, P2c}
 use Rattle.voting.specs.Core.{Lawful, Obeys-P2c}
 use Rattle.voting.proofs.Core.{Chosen-fixes, Chosen-agree, Chosen-issued}
-use Rattle.agreement.specs.Theorem.{Group, World, May, timer, offer, logged, execution, opening, replied, message, refused, Reach, begins, turn, Agreement}
-use Rattle.agreement.proofs.Group.{agreement}
-use Rattle.safety.specs.ForGood.{Happens, timer_fires, batch_comes, entry_done, batch_executed, read_opened, read_replied, message_comes, Event, real, turned_away, Comes, starts, goes}
+use Rattle.agreement.specs.Theorem.{Group, World}
+use Rattle.safety.specs.ForGood.{Comes}
 use Rattle.agreement.specs.Worlds.{IsAccepted, IsIssued, IsLearned}
 use Rattle.safety.specs.Sight.{ordered}
 use Rattle.safety.specs.Scene.{Scene, HasPromised, Issued, Fixed, deed}

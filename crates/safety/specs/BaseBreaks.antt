@@ -1,12 +1,9 @@
 -- 02, Wish 7: "A run of three base replicas that breaks it goes into the tests." It is demand 3's run `late`: every turn of it happens, and it marks one slot
 -- with two batches. So the theorem without "strict" is false.
 use Rattle.std.specs.Prelude.{◌≡◌, refl, true}
-use Rattle.std.proofs.Common.{ap, arith}
-use mathlib.Core.List.Memᴰ
 use Rattle.base.specs.Scan.{scan}
 use Rattle.members.specs.Sets.{has, insert, count, count_in}
-use Rattle.batch.specs.declared.Batch.{Batch}
-use Rattle.batch.specs.Batches.{empty_batch, make_batch, same_batch}
+use Rattle.batch.specs.Batches.{make_batch, same_batch}
 use Rattle.batch.specs.Keys.{place_in, note_key, note_keys, new_keys, overfull_in}
 use Rattle.tally.specs.Merge.{merge}
 use Rattle.tally.specs.Open.{find_read, open_read, close_read, put_read, reply_to, fit_reads}
@@ -25,9 +22,8 @@ use Rattle.replica.specs.Durability.{prepared_done, moved_accept, accepted_done,
 use Rattle.replica.specs.Quorumread.{open_read_step, replied_step, read_reply_step}
 use Rattle.replica.specs.Added.{offer_step, moved_exec, executed_step}
 use Rattle.agreement.specs.BySlot.{numbered}
-use Rattle.agreement.specs.Theorem.{Group, World, marks_of, upd, put, begin}
-use Rattle.agreement.specs.Runs.{play, happen, deliver, three, late, late_world, seven, mark, two_batches}
-use Rattle.safety.specs.ForGood.{Comes, starts, ForGood}
+use Rattle.agreement.specs.Theorem.{marks_of, upd, put, begin}
+use Rattle.agreement.specs.Runs.{play, happen, deliver, three, late}
 use Rattle.safety.specs.HonestRuns.{stands, is_real, honest}
 
 pub late-honest : honest three (begin three) late ≡ true

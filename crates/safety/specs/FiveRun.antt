@@ -32,7 +32,6 @@ use Rattle.agreement.specs.BySlot.{numbered}
 use Rattle.agreement.specs.Theorem.{Group, World, slot_of, marks_of, upd, put, begin, accept_entry}
 use Rattle.agreement.specs.Written.{line, lines}
 use Rattle.agreement.specs.Runs.{Turn, times, offers, logs, gets, play, happen, deliver, seven, mark, further}
-use Rattle.safety.specs.ForGood.{Comes, starts}
 use Rattle.safety.specs.HonestRuns.{stands, is_real, honest}
 
 -- ── five strict members, all present, start 0 ──

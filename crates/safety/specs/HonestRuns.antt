@@ -6,7 +6,6 @@ use mathlib.Core.List.Memᴰ
 use mathlib.Core.List.{List, [], ◌∷◌}
 use Rattle.base.specs.Pick.{and_left, and_right, or_cases, clash}
 use Rattle.base.specs.Among.{◌∈◌}
-use Rattle.members.specs.Sets.{count}
 use Rattle.batch.specs.Batches.{same_list}
 use Rattle.batch.specs.Laws.{same_list-true}
 use Rattle.actions.specs.declared.Action.{Action}
@@ -18,7 +17,7 @@ use Rattle.replica.specs.Durability.{entry_number}
 use Rattle.replica.specs.Step.{Call, received}
 use Rattle.laws.specs.WaysDurability.{completion}
 use Rattle.agreement.specs.Theorem.{Group, World}
-use Rattle.agreement.specs.Runs.{Turn, times, offers, logs, gets, who, does, thing, play, happen, deliver, get_d_in}
+use Rattle.agreement.specs.Runs.{Turn, times, offers, logs, gets, who, does, thing, happen, deliver, get_d_in}
 use Rattle.safety.specs.ForGood.{EntryIn, Happens, timer_fires, batch_comes, entry_done, message_comes, real, Comes, goes}
 
 -- ── the test of a turn: a completion is of an entry that this member wrote, with kind, slot and ballot; what arrives is a message that its sender did ──

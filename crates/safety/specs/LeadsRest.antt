@@ -1,6 +1,6 @@
 -- Of `Leads`: a call that neither hears a reply nor steps up. The lead goes on with its bookkeeping as it was and no slot becomes Preparing; or self does
 -- not lead after it.
-use Rattle.std.specs.Prelude.{◌≡◌, refl, true, ◌||◌, List, [], ℕ, ◌+◌, ◌-◌, ◌≤◌, ltb, leb, eqb}
+use Rattle.std.specs.Prelude.{◌≡◌, refl, true, ◌||◌, List, [], ℕ, ◌+◌, ◌≤◌, ltb, leb, eqb}
 use Rattle.std.proofs.Common.{sym, ap, subst, ◌∙◌, inl, arith}
 use Rattle.base.specs.Pick.{pick_both}
 use Rattle.base.specs.Among.{◌∈◌, All, All-in}

@@ -1,53 +1,38 @@
 -- THE PROOF of 02, Wish 7 (ForGood): every world that a group of strict members comes to is a sound scene, with whatever completions were
 -- reported; so each mark is of a batch that was chosen, and the paper's argument gives the rest.
-use Rattle.std.specs.Prelude.{◌≡◌, Bool, true, List, [], ◌++◌, ◌⊎◌, ℕ, ◌+◌, ◌≤◌, ◌<◌, ltb, leb}
-use Rattle.std.proofs.Math.Path.{refl, fun_ext}
-use Rattle.std.proofs.Common.{sym, ap, subst, ◌∙◌, append-nil, inl, inr, arith, ltb-true, leb-true}
+use Rattle.std.specs.Prelude.{◌≡◌, Bool, true, List, [], ◌++◌, ◌⊎◌, ℕ, ◌+◌, ◌≤◌, ◌<◌}
+use Rattle.std.proofs.Math.Path.{fun_ext}
+use Rattle.std.proofs.Common.{sym, ap, subst, ◌∙◌, append-nil, inl, inr, arith}
 use mathlib.Core.List.Memᴰ
-use Rattle.std.proofs.lemmas.Bool.{not-true}
-use Rattle.base.specs.Pick.{pick_cases, same?, clash, and_both}
-use Rattle.base.specs.Gather.{All-gather}
-use Rattle.base.specs.Among.{◌∈◌, All, All-in, All-append, All-map}
+use Rattle.base.specs.Pick.{pick_cases, same?, and_both}
+use Rattle.base.specs.Among.{◌∈◌}
 use Rattle.members.specs.Groups.{group_size}
 use Rattle.members.specs.Laws.{group_bounds}
 use Rattle.batch.specs.declared.Batch.{Batch}
-use Rattle.batch.specs.Batches.{key_list}
-use Rattle.batch.specs.Laws.{is_same}
 use Rattle.actions.specs.Actions.{Act}
-use Rattle.slots.specs.declared.Slot.{Slot}
-use Rattle.slots.specs.Slots.{null_slot, committed}
-use Rattle.decide.specs.Scalars.{strict, may_be}
-use Rattle.decide.specs.Decide.{names_other}
-use Rattle.window.specs.Window.{no_slots, slot_at}
+use Rattle.slots.specs.Slots.{null_slot}
+use Rattle.decide.specs.Scalars.{may_be}
+use Rattle.window.specs.Window.{slot_at}
 use Rattle.window.specs.Places.{filled_has}
-use Rattle.window.specs.ByPlace.{at_past, at_here, grown_at}
+use Rattle.window.specs.ByPlace.{at_here, grown_at}
 use Rattle.replica.specs.declared.Replica.{Replica}
 use Rattle.replica.specs.declared.Done.{Done}
 use Rattle.replica.specs.declared.Made.{Made}
-use Rattle.replica.specs.Record.{Outcome, new_replica, fresh, zero_replica, log_end, place}
+use Rattle.replica.specs.Record.{Outcome, new_replica, fresh, zero_replica, place}
 use Rattle.replica.specs.Messages.{clean}
-use Rattle.replica.specs.Step.{Call, step}
-use Rattle.laws.proofs.Theorems.{refusals_keep, refusals_silent}
+use Rattle.replica.specs.Step.{Call}
 use Rattle.laws.specs.WaysMessages.{accept_window}
-use Rattle.laws.specs.Fifteen.{Other, fifteen_why}
 use Rattle.voting.specs.Core.{Lawful}
 use Rattle.voting.proofs.Core.{Chosen-fixes, Chosen-agree}
 use Rattle.agreement.specs.BySlot.{numbered_place}
-use Rattle.agreement.specs.Theorem.{Group, Mark, World, slot_of, rises, mark_at, marks_of, upd, put, begin}
-use Rattle.safety.specs.ForGood.{Happens, timer_fires, batch_comes, entry_done, batch_executed, read_opened, read_replied, message_comes, real, turned_away, Comes, starts, goes, OneSlotOneBatch}
+use Rattle.agreement.specs.Theorem.{Group, Mark, World, slot_of, upd, put, begin}
+use Rattle.safety.specs.ForGood.{Happens, timer_fires, batch_comes, entry_done, batch_executed, read_opened, read_replied, message_comes, Comes, starts, goes}
 use Rattle.agreement.specs.Local.{accept_sent}
-use Rattle.agreement.specs.Group.{upd_same, upd_other, each as Each-member, Inv-start, made_fresh}
+use Rattle.agreement.specs.Group.{upd_same, upd_other}
 use Rattle.safety.specs.Sight.{sight_of, Able}
-use Rattle.safety.specs.Able.{Able-step, Able-new, Fine-of, every_slot}
-use Rattle.safety.specs.Frames.{keeps_to}
 use Rattle.safety.specs.Scene.{Scene, HasPromised, Cast, Voted, Lasts, Issued, Fixed, Brought, received-Brought, completions, acted}
-use Rattle.safety.specs.Alone.{Alone}
 use Rattle.safety.specs.Lawfully.{member, lawful}
 use Rattle.safety.specs.Rows.{Sound}
-use Rattle.safety.specs.Growth.{Fixed-ext}
-use Rattle.safety.specs.Moves.{Move, next, ext}
-use Rattle.safety.specs.Learning.{done_step}
-use Rattle.safety.specs.Steps.{Sound-step}
 
 -- ── a world as a scene: all that a member did stands in its log ──
 abbrev pub scene_of : World → (ℕ → List Done) → Scene

@@ -1,23 +1,10 @@
 -- What "Paxos Made Simple" requires of voting, 2.1, and what it gets it by, 2.2, of every world that a group of strict members comes to: of any slot, a batch
 -- being accepted where its accept entry is written, and learned where a slot is marked. That only a proposed batch is chosen is `only_proposed` (agreement).
-use Rattle.std.specs.Prelude.{◌≡◌, true, List, ℕ}
-use Rattle.std.proofs.Common.{sym, subst, arith}
-use Rattle.base.specs.Among.{◌∈◌, All-in}
-use Rattle.actions.specs.declared.Order.{Order}
-use Rattle.actions.specs.declared.Action.TheVariants.{Execute}
-use Rattle.replica.specs.declared.Done.{Done}
+use Rattle.std.specs.Prelude.{ℕ}
 use Rattle.replica.specs.Step.{Call}
-use Rattle.voting.specs.Paper.{OnlyOne, OnlyChosenLearned, P2, P2c}
-use Rattle.voting.specs.Core.{Lawful, Obeys-P2c}
-use Rattle.voting.proofs.Core.{Chosen-fixes, Chosen-agree, Chosen-issued}
 use Rattle.agreement.specs.Theorem.{Group, World, May, timer, offer, logged, execution, opening, replied, message, refused, Reach, begins, turn, Agreement}
 use Rattle.agreement.proofs.Group.{agreement}
 use Rattle.safety.specs.ForGood.{Happens, timer_fires, batch_comes, entry_done, batch_executed, read_opened, read_replied, message_comes, Event, real, turned_away, Comes, starts, goes}
-use Rattle.agreement.specs.Worlds.{IsAccepted, IsIssued, IsLearned}
-use Rattle.safety.specs.Sight.{ordered}
-use Rattle.safety.specs.Scene.{Scene, HasPromised, Issued, Fixed, deed}
-use Rattle.safety.specs.Lawfully.{member, lawful}
-use Rattle.safety.specs.Proof.{scene_of, group_few, Fixed-same}
 
 -- ── these runs are among demand 3's ──
 Happens-May : (w : World) (m room : ℕ) (c : Call) → Happens w m c → May w m room c

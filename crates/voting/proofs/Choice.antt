@@ -1,33 +1,15 @@
 -- The rest of specs/Choice.antt: what stands on a theorem that a must-fail edit makes false.
-use Rattle.std.specs.Prelude.{◌≡◌, refl, ◌&&◌, List, [], ◌∷◌, ℕ, ◌+◌, ◌-◌, ◌≤◌, ◌<◌, ltb, leb, eqb}
-use Rattle.std.proofs.Common.{sym, ap, subst, ◌∙◌, arith, ltb-true}
-use Rattle.base.specs.Pick.{pick_both, pick_cases, and_both}
-use Rattle.base.specs.Among.{All, All-append}
+use Rattle.std.specs.Prelude.{◌≡◌, refl, List, [], ◌∷◌, ℕ, ◌-◌, ◌≤◌}
+use Rattle.std.proofs.Common.{sym, ap, subst, ◌∙◌, arith}
 use Rattle.slots.specs.declared.Vote.{Vote}
-use Rattle.slots.specs.declared.Slot.{Slot}
-use Rattle.slots.specs.Slots.{new_book, redone_slot, with_state, with_leader, with_external, committed, executed, preparing, null_slot}
-use Rattle.decide.specs.declared.Reply.{Reply}
-use Rattle.window.specs.Window.{first_open}
-use Rattle.window.specs.Places.{size, filled_long, filled_most}
-use Rattle.window.specs.ByPlace.{at_place, sweep_cases, grown_at, at_past}
+use Rattle.window.specs.ByPlace.{at_place}
 use Rattle.replica.specs.declared.Replica.{Replica}
-use Rattle.replica.specs.declared.Done.{Done}
-use Rattle.replica.specs.declared.Entry.TheVariants.{PrepareBal}
-use Rattle.replica.specs.Record.{place}
-use Rattle.replica.specs.Messages.{clean_reply}
-use Rattle.replica.specs.Step.{Call, call_prepare_reply, call_timeout, call_logged, step}
-use Rattle.laws.specs.OfFit.{fit_facts}
-use Rattle.laws.specs.WaysLeadership.{lead_window, lead_trigger, lead_end, lead_from, led, Leads, timeout_step_ways, Leads-up}
-use Rattle.laws.specs.WaysDurability.{completion, logged}
 use Rattle.voting.specs.Paper.{Choice}
 use Rattle.voting.specs.History.{Lent, told, play}
-use Rattle.voting.specs.Claims.{Claim, Of}
-use Rattle.voting.specs.Logging.{own_answer, own_book}
 use Rattle.voting.specs.Promises.{step_core}
 use Rattle.voting.specs.Reached.{Good, Good-step}
-use Rattle.voting.specs.Heard.{held_by, held_at, best, arrives, brings, heard, heard_in, Steady, Reign, best-append}
+use Rattle.voting.specs.Heard.{held_by, held_at, best, heard, heard_in, Steady, Reign, best-append}
 use Rattle.voting.proofs.Heard.{best-Choice}
-use Rattle.voting.specs.Held.{heard_ways}
 use Rattle.voting.proofs.Held.{held_call}
 use Rattle.voting.specs.Choice.{heard_all}
 

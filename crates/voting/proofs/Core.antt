@@ -2,9 +2,8 @@
 use Rattle.std.specs.Prelude.{◌≡◌, true, false, ◌⊎◌, ℕ, zero, suc, ◌≤◌, ◌<◌, ltb}
 use Rattle.std.proofs.Common.{sym, ◌∙◌, inl, inr, arith, ltb-true, ltb-false}
 use Rattle.base.specs.Pick.{decide, same?}
-use Rattle.members.specs.Sets.{has}
 use Rattle.slots.specs.declared.Vote.{Vote}
-use Rattle.voting.specs.Paper.{Majority, Chosen, AcceptedBelow, P2c, majorities_meet}
+use Rattle.voting.specs.Paper.{Chosen, AcceptedBelow, majorities_meet}
 use Rattle.voting.specs.Core.{Lawful, Obeys, Values, Votes, Vows}
 
 -- ── the argument ──

@@ -1,43 +1,22 @@
 -- The rest of specs/Entering.antt: what stands on a theorem that a must-fail edit makes false.
-use Rattle.std.specs.Prelude.{◌≡◌, refl, Bool, List, [], ◌∷◌, ◌++◌, ◌⊎◌, ℕ, ◌+◌, ◌≤◌, ◌<◌, ◌-◌, eqb}
-use Rattle.std.proofs.Common.{sym, ap, ◌∙◌, subst, inl, inr, arith, eqb-true, eq-eqb}
-use mathlib.Core.List.Memᴰ
-use Rattle.base.specs.Pick.{pick, pick_cases}
+use Rattle.std.specs.Prelude.{◌≡◌, List, [], ◌∷◌, ◌++◌, ℕ, ◌-◌}
+use Rattle.std.proofs.Common.{ap, ◌∙◌, subst, arith}
 use Rattle.base.specs.Among.{◌∈◌}
-use Rattle.base.specs.Gather.{gather_in}
-use Rattle.actions.specs.declared.Action.TheVariants.{Accept, AcceptData}
-use Rattle.actions.specs.Actions.{Act, act}
-use Rattle.slots.specs.declared.Slot.{Slot}
-use Rattle.slots.specs.Slots.{preparing, accepting, own_voted, entered_slot, with_state}
-use Rattle.decide.specs.Scalars.{strict}
+use Rattle.actions.specs.Actions.{Act}
 use Rattle.decide.specs.declared.Reply.{Reply}
-use Rattle.decide.specs.Decide.{proposal}
-use Rattle.window.specs.declared.Window.{Window}
-use Rattle.window.specs.Window.{slot_at}
-use Rattle.window.specs.Acts.{promise, enter_acts}
-use Rattle.window.specs.ByPlace.{at_place, sweep_at, at_here}
+use Rattle.window.specs.ByPlace.{at_place}
 use Rattle.replica.specs.declared.Replica.{Replica}
-use Rattle.replica.specs.declared.Done.{Done}
-use Rattle.replica.specs.Record.{place, number}
-use Rattle.replica.specs.Messages.{clean_reply}
+use Rattle.replica.specs.Record.{number}
 use Rattle.replica.specs.Step.{call_prepare_reply, call_logged, step}
-use Rattle.laws.specs.OfFit.{fit_facts}
-use Rattle.laws.specs.Counts.{counted_long}
-use Rattle.laws.specs.WaysReply.{counted_window, Answers, reply_place}
-use Rattle.laws.specs.WaysDurability.{completion, Logs, logged, other_entry}
-use Rattle.laws.specs.Appended.{appended_most}
-use Rattle.voting.specs.Windows.{Whole, Whole-put}
-use Rattle.voting.specs.Claims.{Claim, Of}
-use Rattle.voting.specs.Replying.{entered_window, enters_acts, reply_acts, ReplyWays, prepare_reply_way}
+use Rattle.laws.specs.WaysDurability.{completion}
 use Rattle.voting.specs.Reached.{Good, Good-play}
 use Rattle.voting.specs.Quorums.{kind_of}
-use Rattle.replica.specs.declared.Entry.TheVariants.{PrepareBal, AcceptData, CommitSlot as CommitEntry}
-use Rattle.replica.specs.Durability.{logged_on}
-use Rattle.voting.specs.Logging.{LogWays, own_answer, logged_way}
+use Rattle.replica.specs.declared.Entry.TheVariants.{PrepareBal}
+use Rattle.voting.specs.Logging.{own_answer}
 use Rattle.voting.specs.History.{Lent, told, play, play-append}
 use Rattle.voting.specs.Promises.{step_core, play-Grows}
 use Rattle.voting.specs.Paper.{Choice}
-use Rattle.voting.specs.Heard.{held_at, heard_in, Reign}
+use Rattle.voting.specs.Heard.{held_at, heard_in}
 use Rattle.voting.proofs.Choice.{choice}
 use Rattle.batch.specs.declared.Batch.{Batch}
 use Rattle.voting.specs.Entering.{Entered, WithChoice, own_enters_with, reply_enters_with}

@@ -1,28 +1,10 @@
 -- The rest of specs/Heard.antt: what stands on a theorem that a must-fail edit makes false.
-use Rattle.std.specs.Prelude.{◌≡◌, refl, Bool, true, false, not, ◌&&◌, List, [], ◌∷◌, ◌++◌, ◌⊎◌, ℕ, ◌≤◌, ◌<◌, ltb, eqb}
-use Rattle.std.proofs.Common.{ap, inl, inr, le_refl, arith}
-use mathlib.Core.List.Memᴰ
+use Rattle.std.specs.Prelude.{◌≡◌, refl, List, [], ◌∷◌, ◌⊎◌, ◌≤◌, ◌<◌, ltb}
+use Rattle.std.proofs.Common.{ap, inl, inr, arith}
 use Rattle.base.specs.Pick.{pick, pick_cases, tests}
 use Rattle.base.specs.Among.{◌∈◌, All}
 use Rattle.slots.specs.declared.Vote.{Vote}
-use Rattle.slots.specs.declared.Slot.{Slot}
-use Rattle.decide.specs.declared.Reply.{Reply}
-use Rattle.decide.specs.Scalars.{leads}
-use Rattle.decide.specs.Decide.{awaits_prepare}
-use Rattle.window.specs.Window.{slot_at}
-use Rattle.window.specs.ByPlace.{at_place}
-use Rattle.replica.specs.declared.Replica.{Replica}
-use Rattle.replica.specs.declared.Done.{Done}
-use Rattle.replica.specs.declared.Entry.{Entry}
-use Rattle.replica.specs.declared.Entry.TheVariants.{PrepareBal, AcceptData, CommitSlot as CommitEntry}
-use Rattle.replica.specs.Record.{place}
-use Rattle.replica.specs.Messages.{is_elsewhere, clean_reply}
-use Rattle.replica.specs.Step.{Call, call_prepare, call_prepare_reply, call_accept, call_accept_reply, call_commit_notice, call_timeout, call_logged, call_offer, call_executed, call_open_read, call_read_reply}
-use Rattle.laws.specs.WaysReply.{grown_window}
-use Rattle.laws.specs.WaysDurability.{logged}
 use Rattle.voting.specs.Paper.{Highest, Choice}
-use Rattle.voting.specs.History.{Lent, told}
-use Rattle.voting.specs.Logging.{own_answer, own_book}
 use Rattle.voting.specs.Heard.{best, best_above, best_is_from}
 
 pub best_largest : (v : Vote) (l : List Vote) → All (λ (x : Vote). x.ballot ≤ (best v l).ballot) l

@@ -1,9 +1,8 @@
 -- The rest of specs/Implied.antt: what stands on a theorem that a must-fail edit makes false.
-use Rattle.std.specs.Prelude.{◌≡◌, true, false, ◌⊎◌, ℕ, ◌≤◌, ◌<◌, ltb}
-use Rattle.std.proofs.Common.{sym, inl, inr, arith, ltb-true}
-use Rattle.base.specs.Pick.{decide, tests}
+use Rattle.std.specs.Prelude.{◌≡◌, ℕ, ◌≤◌, ◌<◌}
+use Rattle.std.proofs.Common.{arith}
 use Rattle.slots.specs.declared.Vote.{Vote}
-use Rattle.voting.specs.Paper.{majorities_meet, Chosen, OnlyOne, P2, P2c}
+use Rattle.voting.specs.Paper.{Chosen, P2, P2c}
 use Rattle.voting.specs.Core.{Lawful, P2c-Obeys}
 use Rattle.voting.proofs.Core.{Chosen-fixes, Chosen-issued}
 

@@ -1,35 +1,15 @@
 -- The rest of specs/Telling.antt: what stands on a theorem that a must-fail edit makes false.
-use Rattle.std.specs.Prelude.{◌≡◌, refl, List, [], ◌∷◌, false, ◌⊎◌, ℕ, ◌≤◌, ◌<◌}
-use Rattle.std.proofs.Common.{sym, ap, subst, ◌∙◌, inl, inr, arith}
-use mathlib.Core.List.Memᴰ
-use Rattle.base.specs.Pick.{clash}
+use Rattle.std.specs.Prelude.{◌≡◌, List, [], false, ◌⊎◌, ℕ, ◌≤◌}
+use Rattle.std.proofs.Common.{sym, subst, ◌∙◌, inl, inr}
 use Rattle.base.specs.Among.{◌∈◌}
-use Rattle.actions.specs.declared.Action.TheVariants.{PrepareReply}
-use Rattle.actions.specs.Actions.{Act, act}
 use Rattle.slots.specs.declared.Vote.{Vote}
-use Rattle.slots.specs.declared.Slot.{Slot}
-use Rattle.decide.specs.declared.Scalars.{Scalars}
-use Rattle.decide.specs.Scalars.{leads, strict}
-use Rattle.decide.specs.Decide.{sent_vote}
-use Rattle.window.specs.Window.{slot_at}
-use Rattle.window.specs.ByPlace.{at_place, at_here}
+use Rattle.decide.specs.Scalars.{strict}
 use Rattle.replica.specs.declared.Replica.{Replica}
-use Rattle.replica.specs.declared.Done.{Done}
-use Rattle.replica.specs.declared.Entry.TheVariants.{PrepareBal, AcceptData, CommitSlot as CommitEntry}
-use Rattle.replica.specs.Record.{place}
-use Rattle.replica.specs.Durability.{logged_on}
-use Rattle.replica.specs.Step.{call_logged, step}
-use Rattle.laws.specs.OfFit.{fit_facts}
-use Rattle.laws.specs.WaysDurability.{completion, Logs, logged_at, other_entry}
 use Rattle.voting.specs.Paper.{Highest}
 use Rattle.voting.specs.Windows.{Whole}
-use Rattle.voting.specs.Keeping.{logged_keeps}
 use Rattle.voting.specs.History.{Lent, play}
-use Rattle.voting.specs.Claims.{Claim, Of}
-use Rattle.voting.specs.Logging.{LogWays, logged_way}
 use Rattle.voting.specs.Votes.{vote_of, taken, last_of}
 use Rattle.voting.proofs.Votes.{vote_last, vote_largest}
-use Rattle.voting.specs.Quorums.{logged_same}
 use Rattle.voting.specs.Telling.{last_in}
 
 -- 2.2, phase 1 (b): a base replica's slot's vote is the highest-numbered of the Accepts taken for it, where one was; on any record with a window of 64

@@ -1,46 +1,14 @@
 -- The rest of specs/Votes.antt: what stands on a theorem that a must-fail edit makes false.
-use Rattle.std.specs.Prelude.{◌≡◌, refl, Bool, true, false, ◌&&◌, List, [], ◌∷◌, ◌++◌, ◌⊎◌, ℕ, ◌+◌, ◌-◌, ◌≤◌, ltb, leb, eqb, length}
-use Rattle.std.proofs.Common.{sym, ap, subst, ◌∙◌, inl, inr, le_refl, arith, eq-eqb, ne_eqb}
-use Rattle.std.proofs.Math.Bool.{and-false}
-use Rattle.base.specs.Pick.{pick, pick_both, same?, clash}
+use Rattle.std.specs.Prelude.{◌≡◌, refl, false, List, [], ◌∷◌, ℕ, ◌-◌, ◌≤◌}
+use Rattle.std.proofs.Common.{sym, ap, subst, ◌∙◌, le_refl, arith}
 use Rattle.base.specs.Among.{All, All-append, All-map}
-use Rattle.batch.specs.declared.Batch.{Batch}
-use Rattle.actions.specs.declared.Says.{Says}
-use Rattle.actions.specs.Actions.{says_acts}
 use Rattle.slots.specs.declared.Vote.{Vote}
-use Rattle.slots.specs.declared.Slot.{Slot}
-use Rattle.slots.specs.Slots.{no_vote, new_book, redone_slot, prepared_slot, entered_slot, marked_slot, passed_slot, accepted_slot, logged_slot, with_state, with_leader, with_external, committed, executed, preparing, null_slot}
-use Rattle.decide.specs.declared.Scalars.{Scalars}
-use Rattle.decide.specs.declared.Reply.{Reply}
-use Rattle.decide.specs.Scalars.{strict, steps_down, followed}
-use Rattle.decide.specs.Decide.{decide_offer}
-use Rattle.window.specs.declared.Window.{Window}
-use Rattle.window.specs.Window.{slot_at, put_slot, grown, first_open}
-use Rattle.window.specs.Places.{filled_has, filled_most}
-use Rattle.window.specs.ByPlace.{at_place, put_keeps, put_at, put_elsewhere, sweep_keeps, grown_at, at_here, at_past}
+use Rattle.decide.specs.Scalars.{strict}
+use Rattle.window.specs.ByPlace.{at_place}
 use Rattle.replica.specs.declared.Replica.{Replica}
-use Rattle.replica.specs.declared.Done.{Done}
-use Rattle.replica.specs.Record.{place}
-use Rattle.replica.specs.Messages.{clean, clean_reply, prepare_book}
-use Rattle.replica.specs.Durability.{pass_stop, logged_on}
-use Rattle.replica.specs.Added.{moved_exec}
-use Rattle.replica.specs.Step.{Call, call_prepare, call_prepare_reply, call_accept, call_accept_reply, call_commit_notice, call_timeout, call_logged, call_offer, call_executed, call_open_read, call_read_reply, step}
-use Rattle.laws.specs.OfScalars.{followed_seen}
-use Rattle.laws.specs.OfFit.{fit_facts}
-use Rattle.laws.proofs.Theorems.{kind_stays}
-use Rattle.laws.specs.WaysMessages.{prepare_window, prepare_end, prepare_step_ways, Accepts, accept_step_ways, accept_reply_step_ways}
-use Rattle.laws.specs.WaysReply.{grown_window, reply_window, reply_slot, heard_window, counted_window, Answers, reply_place}
-use Rattle.laws.specs.WaysLeadership.{lead_window, lead_trigger, lead_end, lead_from, timeout_step_ways, mark_window, mark_from, mark_end, commit_notice_step_ways}
-use Rattle.laws.specs.WaysDurability.{logged, logged_at, pass_from}
-use Rattle.laws.specs.WaysAdded.{Offers, offer_window, offer_step_ways, executed_step_ways}
-use Rattle.laws.specs.Appended.{appended_cases}
-use Rattle.voting.specs.Windows.{Whole, Whole-put, Whole-grown}
-use Rattle.voting.specs.Keeping.{entered_keeps, marked_keeps, passed_keeps, executed_keeps, logged_keeps, heard_keeps}
-use Rattle.voting.specs.History.{Lent, told, play, acts}
-use Rattle.voting.specs.Claims.{core, Claim, Of, open_read_way, read_reply_way}
-use Rattle.voting.specs.Replying.{ReplyWays, prepare_reply_way}
-use Rattle.voting.specs.Logging.{own_answer, LogWays, logged_way}
-use Rattle.voting.specs.Promises.{step_core, worked, accept_says}
+use Rattle.voting.specs.Windows.{Whole}
+use Rattle.voting.specs.History.{Lent, told, play}
+use Rattle.voting.specs.Promises.{step_core}
 use Rattle.voting.specs.Wholes.{Whole-step}
 use Rattle.voting.specs.Votes.{All-with, IsBetween, last_append, last_of, last_of-All, later, still_base, taken, takes, takes_held, takes_largest, vote_call, vote_of}
 

@@ -1,7 +1,7 @@
 -- The proposer's choice: the batch with which a leader enters Accept is that of the largest voted ballot among the replies that arrived for
 -- the slot while it was Preparing at this ballot, else what the slot held.
-use Rattle.std.specs.Prelude.{◌≡◌, refl, ◌&&◌, List, [], ◌∷◌, ℕ, ◌+◌, ◌-◌, ◌≤◌, ◌<◌, ltb, leb, eqb}
-use Rattle.std.proofs.Common.{sym, ap, subst, ◌∙◌, arith, ltb-true}
+use Rattle.std.specs.Prelude.{◌≡◌, refl, ◌&&◌, List, [], ◌∷◌, ℕ, ◌+◌, ◌≤◌, ◌<◌, ltb, leb, eqb}
+use Rattle.std.proofs.Common.{ap, ◌∙◌, arith, ltb-true}
 use Rattle.base.specs.Pick.{pick_both, pick_cases, and_both}
 use Rattle.base.specs.Among.{All, All-append}
 use Rattle.slots.specs.declared.Vote.{Vote}
@@ -20,13 +20,11 @@ use Rattle.replica.specs.Step.{Call, call_prepare_reply, call_timeout, call_logg
 use Rattle.laws.specs.OfFit.{fit_facts}
 use Rattle.laws.specs.WaysLeadership.{lead_window, lead_trigger, lead_end, lead_from, led, Leads, timeout_step_ways, Leads-up}
 use Rattle.laws.specs.WaysDurability.{completion, logged}
-use Rattle.voting.specs.Paper.{Choice}
-use Rattle.voting.specs.History.{Lent, told, play}
+use Rattle.voting.specs.History.{Lent, told}
 use Rattle.voting.specs.Claims.{Claim, Of}
 use Rattle.voting.specs.Logging.{own_answer, own_book}
-use Rattle.voting.specs.Promises.{step_core}
-use Rattle.voting.specs.Reached.{Good, Good-step}
-use Rattle.voting.specs.Heard.{held_by, held_at, best, arrives, brings, heard, heard_in, Steady, Reign, best-append}
+use Rattle.voting.specs.Reached.{Good}
+use Rattle.voting.specs.Heard.{held_at, arrives, brings, heard, heard_in}
 use Rattle.voting.specs.Held.{heard_ways}
 
 -- ── the choice ──

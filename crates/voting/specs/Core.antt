@@ -1,11 +1,10 @@
 -- 2.2, the paper's own argument, over votes and numbers alone, for one slot: where each proposal that is issued obeys P2c, only a single value is chosen.
 -- P2c is read as it can be kept up while votes are cast: the majority S has promised the number, so that what its members accept later is not below it.
-use Rattle.std.specs.Prelude.{◌≡◌, true, false, ◌⊎◌, ℕ, zero, suc, ◌≤◌, ◌<◌, ltb}
-use Rattle.std.proofs.Common.{sym, ◌∙◌, inl, inr, arith, ltb-true, ltb-false}
-use Rattle.base.specs.Pick.{decide, same?}
+use Rattle.std.specs.Prelude.{◌≡◌, true, ◌⊎◌, ℕ, ◌≤◌}
+use Rattle.std.proofs.Common.{inl, inr, arith}
 use Rattle.members.specs.Sets.{has}
 use Rattle.slots.specs.declared.Vote.{Vote}
-use Rattle.voting.specs.Paper.{Majority, Chosen, AcceptedBelow, P2c, majorities_meet}
+use Rattle.voting.specs.Paper.{Majority, Chosen, AcceptedBelow, P2c}
 
 -- member m accepted the proposal v
 abbrev pub Votes : Type 1

@@ -28,7 +28,6 @@ use Rattle.laws.specs.OfScalars.{fallen_ways}
 use Rattle.laws.specs.Counts.{counted_long}
 use Rattle.laws.specs.Appended.{appended_cases, appended_low, appended_most}
 use Rattle.laws.specs.WaysReply.{adopts_vote, grown_window, reply_window, reply_slot, heard_window, counted_window, counts_now, is_full, Answers, reply_place}
-use Rattle.laws.specs.WaysDurability.{logged}
 use Rattle.voting.specs.Paper.{Majority}
 use Rattle.voting.specs.Windows.{Whole}
 use Rattle.voting.specs.Keeping.{entered_keeps, heard_keeps}

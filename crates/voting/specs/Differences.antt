@@ -30,7 +30,7 @@ use Rattle.replica.specs.Messages.{prepare_book, prepare_on, prepare_step, count
 use Rattle.replica.specs.Leadership.{lead_on, step_up, timeout_step, mark_on, commit_notice_step}
 use Rattle.replica.specs.Durability.{prepared_done, moved_accept, accepted_done, pass_on, pass_stop, committed_done, logged_on, logged_step}
 use Rattle.replica.specs.Added.{offer_step}
-use Rattle.replica.specs.Step.{Call, call_prepare, call_prepare_reply, call_accept, call_accept_reply, call_commit_notice, call_timeout, call_logged, call_offer, step}
+use Rattle.replica.specs.Step.{Call, call_prepare, call_prepare_reply, call_accept, call_accept_reply, call_commit_notice, call_timeout, call_logged, step}
 use Rattle.laws.specs.OfFit.{fit_facts}
 use Rattle.laws.specs.WaysMessages.{prepare_window, prepare_end, prepare_step_ways, accept_window, accept_step_ways}
 use Rattle.laws.specs.WaysLeadership.{lead_window, lead_trigger, lead_from, timeout_step_ways}
@@ -39,7 +39,6 @@ use Rattle.voting.specs.Paper.{answers_prepare, may_accept}
 use Rattle.voting.specs.Windows.{Whole, Whole-grown}
 use Rattle.voting.specs.Promises.{PrepareActs, AcceptActs, taken_entry, accept_other, accept_high, accept_told}
 use Rattle.voting.specs.Reached.{Good, reached_prepare_iff, reached_accept_iff}
-use Rattle.voting.specs.Votes.{vote_of}
 use Rattle.base.specs.Among.{◌∈◌}
 use Rattle.base.specs.Gather.{gather}
 use Rattle.actions.specs.declared.Action.TheVariants.{Prepare}

@@ -1,6 +1,6 @@
 -- Every Accept that a reply makes a leader send is of a slot that it brings to Accepting, with the batch that the slot holds after the call.
-use Rattle.std.specs.Prelude.{◌≡◌, refl, Bool, List, [], ◌∷◌, ◌++◌, ◌⊎◌, ℕ, ◌+◌, ◌≤◌, ◌<◌, ◌-◌, eqb}
-use Rattle.std.proofs.Common.{sym, ap, ◌∙◌, subst, inl, inr, arith, eqb-true, eq-eqb}
+use Rattle.std.specs.Prelude.{◌≡◌, refl, Bool, List, [], ◌∷◌, ◌++◌, ◌⊎◌, ℕ, ◌+◌, ◌≤◌, ◌<◌, eqb}
+use Rattle.std.proofs.Common.{sym, ap, ◌∙◌, inl, inr, arith, eqb-true, eq-eqb}
 use mathlib.Core.List.Memᴰ
 use Rattle.base.specs.Pick.{pick, pick_cases}
 use Rattle.base.specs.Among.{◌∈◌}
@@ -29,13 +29,11 @@ use Rattle.laws.specs.Appended.{appended_most}
 use Rattle.voting.specs.Windows.{Whole, Whole-put}
 use Rattle.voting.specs.Claims.{Claim, Of}
 use Rattle.voting.specs.Replying.{entered_window, enters_acts, reply_acts, ReplyWays, prepare_reply_way}
-use Rattle.voting.specs.Reached.{Good, Good-play}
 use Rattle.voting.specs.Quorums.{kind_of}
 use Rattle.replica.specs.declared.Entry.TheVariants.{PrepareBal, AcceptData, CommitSlot as CommitEntry}
 use Rattle.replica.specs.Durability.{logged_on}
 use Rattle.voting.specs.Logging.{LogWays, own_answer, logged_way}
-use Rattle.voting.specs.History.{Lent, told, play, play-append}
-use Rattle.voting.specs.Promises.{step_core, play-Grows}
+use Rattle.voting.specs.History.{Lent}
 use Rattle.voting.specs.Paper.{Choice}
 use Rattle.voting.specs.Heard.{held_at, heard_in, Reign}
 use Rattle.batch.specs.declared.Batch.{Batch}

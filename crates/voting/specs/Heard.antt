@@ -1,9 +1,9 @@
 -- What a leader hears of a slot by replies, and the largest of what it hears.
 use Rattle.std.specs.Prelude.{◌≡◌, refl, Bool, true, false, not, ◌&&◌, List, [], ◌∷◌, ◌++◌, ◌⊎◌, ℕ, ◌≤◌, ◌<◌, ltb, eqb}
-use Rattle.std.proofs.Common.{ap, inl, inr, le_refl, arith}
+use Rattle.std.proofs.Common.{inl, inr, le_refl, arith}
 use mathlib.Core.List.Memᴰ
 use Rattle.base.specs.Pick.{pick, pick_cases, tests}
-use Rattle.base.specs.Among.{◌∈◌, All}
+use Rattle.base.specs.Among.{◌∈◌}
 use Rattle.slots.specs.declared.Vote.{Vote}
 use Rattle.slots.specs.declared.Slot.{Slot}
 use Rattle.decide.specs.declared.Reply.{Reply}
@@ -20,7 +20,6 @@ use Rattle.replica.specs.Messages.{is_elsewhere, clean_reply}
 use Rattle.replica.specs.Step.{Call, call_prepare, call_prepare_reply, call_accept, call_accept_reply, call_commit_notice, call_timeout, call_logged, call_offer, call_executed, call_open_read, call_read_reply}
 use Rattle.laws.specs.WaysReply.{grown_window}
 use Rattle.laws.specs.WaysDurability.{logged}
-use Rattle.voting.specs.Paper.{Highest, Choice}
 use Rattle.voting.specs.History.{Lent, told}
 use Rattle.voting.specs.Logging.{own_answer, own_book}
 

@@ -1,43 +1,35 @@
 -- While self leads at one ballot, what a slot holds changes only by replies that arrive for it: one call of each kind.
 use Rattle.std.specs.Prelude.{◌≡◌, Bool, true, false, ◌&&◌, List, [], ◌∷◌, ◌⊎◌, ℕ, ◌+◌, ◌≤◌, ◌<◌, ltb, eqb}
-use Rattle.std.proofs.Math.Path.{refl, sym, ap}
-use Rattle.std.proofs.Common.{subst, ◌∙◌, inl, inr, ltb-false, leb-true, eqb-true, eq-eqb, le-leb, le-ltb}
+use Rattle.std.proofs.Math.Path.{refl, ap}
+use Rattle.std.proofs.Common.{◌∙◌, inl, inr, ltb-false, eqb-true, le-ltb}
 use Rattle.std.proofs.Math.Bool.{not}
 use native.Mathlib.Omega.{arith}
 use Rattle.std.proofs.lemmas.Bool.{not-true}
-use Rattle.base.specs.Pick.{pick, pick_cases, decide, same?, clash, and_both, and_make}
-use Rattle.actions.specs.Actions.{Act}
+use Rattle.base.specs.Pick.{pick, pick_cases, decide, clash, and_both}
 use Rattle.slots.specs.declared.Vote.{Vote}
 use Rattle.slots.specs.declared.Slot.{Slot}
-use Rattle.slots.specs.Slots.{prepared_slot, noted_slot, entered_slot, marked_slot, passed_slot, logged_slot, adopted_slot}
-use Rattle.decide.specs.declared.Scalars.{Scalars}
+use Rattle.slots.specs.Slots.{prepared_slot, marked_slot, passed_slot, logged_slot, adopted_slot}
 use Rattle.decide.specs.declared.Reply.{Reply}
 use Rattle.decide.specs.Scalars.{leads, strict}
-use Rattle.decide.specs.Decide.{decide_offer, awaits_prepare, is_stale}
-use Rattle.window.specs.declared.Window.{Window}
+use Rattle.decide.specs.Decide.{decide_offer, awaits_prepare}
 use Rattle.window.specs.Window.{slot_at, put_slot}
-use Rattle.window.specs.Places.{put_long, put_here}
-use Rattle.window.specs.ByPlace.{at_place, put_keeps, put_at, put_elsewhere, sweep_keeps, grown_at, at_here, at_past}
+use Rattle.window.specs.ByPlace.{at_place, put_keeps, put_elsewhere, sweep_keeps, grown_at}
 use Rattle.replica.specs.declared.Replica.{Replica}
 use Rattle.replica.specs.declared.Done.{Done}
 use Rattle.replica.specs.declared.Entry.{Entry}
 use Rattle.replica.specs.declared.Entry.TheVariants.{PrepareBal, AcceptData, CommitSlot as CommitEntry}
 use Rattle.replica.specs.Record.{place}
-use Rattle.replica.specs.Messages.{is_elsewhere, clean_reply, prepare_book}
+use Rattle.replica.specs.Messages.{is_elsewhere, prepare_book}
 use Rattle.replica.specs.Durability.{entry_number, pass_stop, logged_on}
 use Rattle.replica.specs.Added.{moved_exec}
 use Rattle.replica.specs.Step.{Call, call_prepare, call_prepare_reply, call_accept, call_accept_reply, call_commit_notice, call_timeout, call_logged, call_offer, call_executed, call_open_read, call_read_reply, step}
-use Rattle.laws.specs.OfFit.{fit_facts}
 use Rattle.laws.specs.WaysMessages.{prepare_window, prepare_end, prepare_step_ways, accept_step_ways, accept_reply_step_ways}
-use Rattle.laws.specs.WaysReply.{grown_window, reply_window, reply_slot, heard_slot, heard_window, counted_window, Answers, Heard, Unheard, reply_place}
+use Rattle.laws.specs.WaysReply.{grown_window, heard_slot}
 use Rattle.laws.specs.WaysLeadership.{timeout_step_ways, mark_window, mark_from, mark_end, commit_notice_step_ways, Leads-up}
-use Rattle.laws.specs.WaysDurability.{completion, logged, logged_at, OwnReply, pass_from, other_entry}
+use Rattle.laws.specs.WaysDurability.{completion, logged, logged_at, pass_from}
 use Rattle.laws.specs.WaysAdded.{offer_window, offer_step_ways, executed_step_ways}
-use Rattle.laws.specs.Appended.{appended_long, appended_has, appended_most, appended_cases}
-use Rattle.voting.specs.Windows.{Whole, Whole-put}
-use Rattle.voting.specs.Keeping.{entered_keeps, marked_keeps, passed_keeps, executed_keeps, logged_keeps}
+use Rattle.voting.specs.Keeping.{marked_keeps, passed_keeps, executed_keeps, logged_keeps}
 use Rattle.voting.specs.Claims.{Claim, Of, open_read_way, read_reply_way}
-use Rattle.voting.specs.Replying.{ReplyWays, map_reply, prepare_reply_way}
 use Rattle.voting.specs.Logging.{own_answer, own_book, LogWays, logged_way}
 use Rattle.voting.specs.Reached.{Good, follows_none}
 use Rattle.voting.specs.Heard.{held_by, held_at, best, arrives, brings, heard, no_offer}

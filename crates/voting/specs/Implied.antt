@@ -1,11 +1,10 @@
 -- 2.2, of the definitions in Paper: P2c implies P2b, P2b implies P2, and P2 that a single value is chosen (by Core). The base has no P2c: `P2c-fails`
 -- (agreement, Unsafe).
-use Rattle.std.specs.Prelude.{◌≡◌, true, false, ◌⊎◌, ℕ, ◌≤◌, ◌<◌, ltb}
+use Rattle.std.specs.Prelude.{◌≡◌, true, false, ◌⊎◌, ℕ, ◌≤◌, ltb}
 use Rattle.std.proofs.Common.{sym, inl, inr, arith, ltb-true}
 use Rattle.base.specs.Pick.{decide, tests}
 use Rattle.slots.specs.declared.Vote.{Vote}
-use Rattle.voting.specs.Paper.{majorities_meet, Chosen, OnlyOne, P2, P2c}
-use Rattle.voting.specs.Core.{Lawful, P2c-Obeys}
+use Rattle.voting.specs.Paper.{majorities_meet, Chosen, OnlyOne, P2}
 
 -- "condition P2 guarantees the crucial safety property that only a single value is chosen"
 module _ (group : ℕ) (accepted : ℕ → Vote → Type 0) (few : group ≤ 9)

@@ -15,7 +15,6 @@ use Rattle.replica.specs.declared.Replica.{Replica}
 use Rattle.replica.specs.declared.Done.{Done}
 use Rattle.replica.specs.declared.Entry.TheVariants.{PrepareBal, AcceptData, CommitSlot as CommitEntry}
 use Rattle.replica.specs.Record.{Outcome, place}
-use Rattle.replica.specs.Fit.{sums}
 use Rattle.replica.specs.Messages.{or_kept}
 use Rattle.replica.specs.Durability.{moved_accept, logged_on, logged_step}
 use Rattle.laws.specs.Leaves.{done, or_kept_ways}

@@ -1,7 +1,7 @@
 -- 2.2, phase 2 (a): "If the proposer receives a response to its prepare requests (numbered n) from a majority of acceptors, then it sends an accept
 -- request". Each Accept that a reply makes a leader send comes with a majority in the trigger slot's prepare_acks; and where that slot is at the
 -- leader's ballot, each member in it answered at this ballot.
-use Rattle.std.specs.Prelude.{◌≡◌, refl, true, false, List, [], ◌∷◌, ◌++◌, ℕ, ◌+◌, ◌≤◌, ◌<◌}
+use Rattle.std.specs.Prelude.{◌≡◌, refl, true, false, List, [], ◌∷◌, ◌++◌, ℕ, ◌≤◌, ◌<◌}
 use Rattle.std.proofs.Common.{sym, ap, ◌∙◌, inl, inr, arith, leb-true}
 use Rattle.std.proofs.Math.Path.{subst}
 use Rattle.base.specs.Among.{◌∈◌}

@@ -39,7 +39,7 @@ use Rattle.laws.specs.WaysReply.{grown_window, reply_window, reply_slot, heard_w
 use Rattle.laws.specs.WaysLeadership.{lead_window, lead_trigger, lead_end, lead_from, Leads, timeout_step_ways, mark_window, mark_from, mark_end, marked, Marks, commit_notice_step_ways, Leads-up}
 use Rattle.laws.specs.WaysDurability.{logged, logged_at, pass_from}
 use Rattle.laws.specs.WaysAdded.{Offers, offered, offer_step_ways, executed_step_ways}
-use Rattle.laws.specs.Appended.{top_within, appended_long, appended_cases}
+use Rattle.laws.specs.Appended.{top_within, appended_cases}
 use Rattle.voting.specs.Windows.{Whole, Whole-put, Whole-sweep, Whole-grown}
 use Rattle.voting.specs.Keeping.{entered_keeps, marked_keeps, passed_keeps, executed_keeps, logged_keeps, heard_keeps}
 use Rattle.voting.specs.History.{Lent, told, play}

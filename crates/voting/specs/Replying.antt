@@ -15,7 +15,6 @@ use Rattle.window.specs.Window.{slot_at, sweep}
 use Rattle.window.specs.Acts.{enter_acts}
 use Rattle.replica.specs.declared.Replica.{Replica}
 use Rattle.replica.specs.Record.{Outcome, place, number}
-use Rattle.replica.specs.Fit.{sums}
 use Rattle.replica.specs.Messages.{append_acts, reply_on, clean_reply, prepare_reply_step}
 use Rattle.laws.specs.Leaves.{done}
 use Rattle.laws.specs.OfScalars.{fallen_ways}

@@ -2,7 +2,7 @@
 use Rattle.std.specs.Prelude.{◌≡◌, refl, true, false, not, ◌||◌, ◌&&◌, List, [], ◌∷◌, ◌++◌, ℕ, ◌+◌, ◌≤◌, leb, eqb}
 use Rattle.std.proofs.Common.{sym, ap, ◌∙◌, arith, eqb-true}
 use Rattle.base.specs.Pick.{pick, pick_both, and_both}
-use Rattle.base.specs.Among.{◌∈◌, All, All-in, All-append, All-map}
+use Rattle.base.specs.Among.{◌∈◌, All, All-in, All-append}
 use Rattle.base.specs.Gather.{gather, All-gather}
 use Rattle.batch.specs.declared.Batch.{Batch}
 use Rattle.tally.specs.declared.Read.{Read}
@@ -43,8 +43,8 @@ use Rattle.voting.specs.History.{Lent, told}
 use Rattle.voting.specs.Claims.{Claim, Of}
 use Rattle.voting.specs.Replying.{enters_acts, reply_acts, ReplyWays, prepare_reply_way}
 use Rattle.voting.specs.Logging.{own_answer, LogWays, logged_way}
-use Rattle.voting.specs.Promises.{accept_says, step_core}
-use Rattle.voting.specs.Reached.{Good, Good-step}
+use Rattle.voting.specs.Promises.{accept_says}
+use Rattle.voting.specs.Reached.{Good}
 use Rattle.voting.specs.Votes.{taken}
 use Rattle.voting.specs.Telling.{told_same}
 

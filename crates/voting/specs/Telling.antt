@@ -1,6 +1,6 @@
 -- What an answer to a Prepare tells: the highest-numbered Accept taken for the slot, at the slot's ballot.
 use Rattle.std.specs.Prelude.{◌≡◌, refl, List, [], ◌∷◌, false, ◌⊎◌, ℕ, ◌≤◌, ◌<◌}
-use Rattle.std.proofs.Common.{sym, ap, subst, ◌∙◌, inl, inr, arith}
+use Rattle.std.proofs.Common.{sym, ap, ◌∙◌, inl, inr, arith}
 use mathlib.Core.List.Memᴰ
 use Rattle.base.specs.Pick.{clash}
 use Rattle.base.specs.Among.{◌∈◌}
@@ -9,7 +9,7 @@ use Rattle.actions.specs.Actions.{Act, act}
 use Rattle.slots.specs.declared.Vote.{Vote}
 use Rattle.slots.specs.declared.Slot.{Slot}
 use Rattle.decide.specs.declared.Scalars.{Scalars}
-use Rattle.decide.specs.Scalars.{leads, strict}
+use Rattle.decide.specs.Scalars.{leads}
 use Rattle.decide.specs.Decide.{sent_vote}
 use Rattle.window.specs.Window.{slot_at}
 use Rattle.window.specs.ByPlace.{at_place, at_here}
@@ -21,13 +21,11 @@ use Rattle.replica.specs.Durability.{logged_on}
 use Rattle.replica.specs.Step.{call_logged, step}
 use Rattle.laws.specs.OfFit.{fit_facts}
 use Rattle.laws.specs.WaysDurability.{completion, Logs, logged_at, other_entry}
-use Rattle.voting.specs.Paper.{Highest}
 use Rattle.voting.specs.Windows.{Whole}
 use Rattle.voting.specs.Keeping.{logged_keeps}
-use Rattle.voting.specs.History.{Lent, play}
 use Rattle.voting.specs.Claims.{Claim, Of}
 use Rattle.voting.specs.Logging.{LogWays, logged_way}
-use Rattle.voting.specs.Votes.{vote_of, taken, last_of}
+use Rattle.voting.specs.Votes.{vote_of, last_of}
 use Rattle.voting.specs.Quorums.{logged_same}
 
 pub last_in : (v : Vote) (l : List Vote) → ((l ≡ []) × (last_of v l ≡ v)) ⊎ (last_of v l ∈ l)

@@ -1,10 +1,10 @@
 -- The vote of a slot in the base kind: over any history it is that of the last Accept taken from a peer for the slot, and no Accept taken had a larger
 -- ballot. The strict kind's is in StrictVotes.
-use Rattle.std.specs.Prelude.{◌≡◌, refl, Bool, true, false, ◌&&◌, List, [], ◌∷◌, ◌++◌, ◌⊎◌, ℕ, ◌+◌, ◌-◌, ◌≤◌, ltb, leb, eqb, length}
-use Rattle.std.proofs.Common.{sym, ap, subst, ◌∙◌, inl, inr, le_refl, arith, eq-eqb, ne_eqb}
+use Rattle.std.specs.Prelude.{◌≡◌, refl, Bool, true, false, ◌&&◌, List, [], ◌∷◌, ◌++◌, ◌⊎◌, ℕ, ◌+◌, ◌≤◌, ltb, leb, eqb, length}
+use Rattle.std.proofs.Common.{sym, ap, ◌∙◌, inl, inr, le_refl, arith, eq-eqb, ne_eqb}
 use Rattle.std.proofs.Math.Bool.{and-false}
 use Rattle.base.specs.Pick.{pick, pick_both, same?, clash}
-use Rattle.base.specs.Among.{All, All-append, All-map}
+use Rattle.base.specs.Among.{All}
 use Rattle.batch.specs.declared.Batch.{Batch}
 use Rattle.actions.specs.declared.Says.{Says}
 use Rattle.actions.specs.Actions.{says_acts}
@@ -37,12 +37,11 @@ use Rattle.laws.specs.WaysAdded.{Offers, offer_window, offer_step_ways, executed
 use Rattle.laws.specs.Appended.{appended_cases}
 use Rattle.voting.specs.Windows.{Whole, Whole-put, Whole-grown}
 use Rattle.voting.specs.Keeping.{entered_keeps, marked_keeps, passed_keeps, executed_keeps, logged_keeps, heard_keeps}
-use Rattle.voting.specs.History.{Lent, told, play, acts}
+use Rattle.voting.specs.History.{Lent, told, acts}
 use Rattle.voting.specs.Claims.{core, Claim, Of, open_read_way, read_reply_way}
 use Rattle.voting.specs.Replying.{ReplyWays, prepare_reply_way}
 use Rattle.voting.specs.Logging.{own_answer, LogWays, logged_way}
 use Rattle.voting.specs.Promises.{step_core, worked, accept_says}
-use Rattle.voting.specs.Wholes.{Whole-step}
 
 -- the vote of slot s; none where the log does not reach
 abbrev pub vote_of : Replica → ℕ → Vote
