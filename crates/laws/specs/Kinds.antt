@@ -1,5 +1,5 @@
 -- 02, Wish 6: "Add a strict kind of replica, chosen when it is made ..; the base kind stays." The calls on which the two kinds give one outcome,
--- from records that differ in nothing but the kind. The proof is in KindCalls; runs on both sides of each test in KindRuns.
+-- from records that differ in nothing but the kind. The proof is in KindCalls and proofs/KindCalls; runs on both sides of each test in KindRuns.
 use Rattle.std.specs.Prelude.{◌≡◌, refl, Bool, true, false, not, ◌&&◌, ℕ, ◌+◌, ◌/◌, ◌%◌, ◌≤◌, leb, eqb}
 use Rattle.std.proofs.Common.{ap, arith, eqb-true}
 use Rattle.std.proofs.lemmas.Bool.{eqb-false}
