@@ -1,4 +1,4 @@
--- The group: the few facts that name two members, and the proof of the theorem.
+-- The group: the few facts that name two members, and the proof of the theorem, which ends in proofs/Group.
 use Rattle.std.specs.Prelude.{◌≡◌, Bool, true, false, ◌&&◌, List, [], ◌++◌, ◌⊎◌, ℕ, ◌%◌, ◌≤◌, ◌<◌, ltb, leb, eqb}
 use Rattle.std.proofs.Math.Path.{refl, subst}
 use Rattle.std.proofs.Common.{sym, ◌∙◌, ap, inl, inr, arith, ltb-true, leb-true, eq-eqb, ne_eqb, lt-ltb, le-leb}

@@ -1,5 +1,5 @@
 -- Learning (the paper's 2.3): what a mark rests on. The statements stand first, each of every present member of every reachable world and of
--- every call, also one that may not happen; their proofs stand below.
+-- every call, also one that may not happen; their proofs stand in proofs/Learning.
 use Rattle.std.specs.Prelude.{◌≡◌, refl, true, List, ℕ}
 use Rattle.std.proofs.Common.{sym, subst}
 use mathlib.Core.List.Memᴰ

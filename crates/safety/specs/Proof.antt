@@ -1,5 +1,5 @@
 -- THE PROOF of 02, Wish 7 (ForGood): every world that a group of strict members comes to is a sound scene, with whatever completions were
--- reported; so each mark is of a batch that was chosen, and the paper's argument gives the rest.
+-- reported; so each mark is of a batch that was chosen, and the paper's argument gives the rest. It ends in proofs/Whole.
 use Rattle.std.specs.Prelude.{◌≡◌, Bool, true, List, [], ◌++◌, ◌⊎◌, ℕ, ◌+◌, ◌≤◌, ◌<◌}
 use Rattle.std.proofs.Math.Path.{fun_ext}
 use Rattle.std.proofs.Common.{sym, ap, subst, ◌∙◌, append-nil, inl, inr, arith}
