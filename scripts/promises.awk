@@ -3,7 +3,8 @@
 # after the call. What stands under `#[test]` or `#[cfg(test)]` no host can reach: it is passed over.
 
 # comments left out, literals emptied; a lifetime and a prime stay
-function cleaned(s,   out, found, before) {
+function cleaned(s,   out, found, before, first, character) {
+  character = "^([^\\\\'\n\200-\377]|[\300-\377][\200-\277]+|\\\\[^\n][^'\n]*)'"
   while (match(s, /\/\/|\/[*]|r#*"|"|'/)) {
     found = substr(s, RSTART, RLENGTH)
     before = RSTART > 1 ? substr(s, RSTART - 1, 1) : substr(out, length(out))
@@ -11,14 +12,14 @@ function cleaned(s,   out, found, before) {
     s = substr(s, RSTART + RLENGTH)
     if (found == "//") { s = index(s, "\n") ? substr(s, index(s, "\n")) : "" ; continue }
     if (found == "/*") { s = index(s, "*/") ? substr(s, index(s, "*/") + 2) : "" ; continue }
+    # whether a literal may begin here: no name ends here, but a `b`
+    first = before !~ /[A-Za-z0-9_']/ || out ~ /(^|[^A-Za-z0-9_])b$/
     if (found == "'") {
-      if ((before !~ /[A-Za-z0-9_']/ || out ~ /(^|[^A-Za-z0-9_'])b$/) && match(s, /^([^\\'\n\200-\377]|[\300-\377][\200-\277]+|\\[^\n][^'\n]*)'/)) { out = out "\"\""; s = substr(s, RLENGTH + 1) }
-      else out = out found
+      if (first && match(s, character)) { out = out "\"\""; s = substr(s, RLENGTH + 1) } else out = out found
       continue
     }
-    if (found ~ /^r/ && before !~ /[A-Za-z0-9_]/ || found ~ /^r/ && out ~ /(^|[^A-Za-z0-9_])b$/) {
-      sub(/^r/, "", found)
-      found = "\"" substr(found, 1, length(found) - 1)
+    if (found ~ /^r/ && first) {
+      found = "\"" substr(found, 2, length(found) - 2)
       out = out "\"\""
       s = index(s, found) ? substr(s, index(s, found) + length(found)) : ""
       continue
@@ -108,7 +109,7 @@ function one_case(word) { return word ~ /^((On|If|For)(Ok|Err|Some|None)|On(True
 function two_cases(word) { return word ~ /^Match(Result|Option|Bool)$/ }
 
 # as far as a text shows: a fact that every outcome meets
-function empty(fact, v,   i, n, left, right, word, first, second) {
+function empty(fact, v,   i, n, left, right, word) {
   fact = trimmed(fact)
   if (fact == "⊤" || fact ~ /^Unit( \{0\})?$/) return 1
   if (fact ~ /^∥.*∥₁$/) { sub(/^∥/, "", fact); sub(/∥₁$/, "", fact); return empty(fact, v) }
@@ -137,9 +138,8 @@ function empty(fact, v,   i, n, left, right, word, first, second) {
       fact = n == 1 ? trimmed(argument[1]) : ""
       return fact == "true" || (i = outside(fact, "==")) && trimmed(substr(fact, 1, i - 1)) == trimmed(substr(fact, i + 2))
     }
-    first = argument[n - 1]
-    second = argument[n]
-    return n > 2 && empty(first, v) && empty(second, v)
+    right = argument[n]
+    return n > 2 && empty(argument[n - 1], v) && empty(right, v)
   }
   if (i = outside(fact, "≡")) n = length("≡")
   else if (i = outside(fact, "≤ℤ")) n = length("≤ℤ")
