@@ -28,7 +28,7 @@ use Rattle.agreement.specs.Theorem.{Group, World, slot_of, begin, May, timer, of
 abbrev pub HasReplied : World → ℕ → ℕ → ℕ → Type 0
 HasReplied w p s ballot = (a : Act) × (a ∈ w.did p) × ((x : Accepted) × (a.what ≡ AcceptReply x) × (x.slot ≡ s) × (x.ballot ≡ ballot))
 
--- every AcceptReply of a run came from a slot that was Accepting when it was sent (its ballot is the slot's: replies-on-completion)
+-- every AcceptReply of a run came from a slot that was Accepting when it was sent (its ballot is the slot's: replies_on_completion)
 abbrev pub Truthful : {g : Group} {w : World} → Reach g w → Type 0
 Truthful begins = Unit {0}
 Truthful (turn {w = u} r m p room c a) =

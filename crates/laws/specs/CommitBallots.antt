@@ -125,7 +125,7 @@ module _ (r : Replica) (room peer ballot bar : ℕ) where
         tt,
       )))
 
--- ── a slot with a larger ballot than the notice: no group comes to it (mark-at-largest), and the entry says the slot's ──
+-- ── a slot with a larger ballot than the notice: no group comes to it (mark_at_largest), and the entry says the slot's ──
 abbrev pub ahead : Replica
 ahead =
     let r : Replica = (step (new_replica 2 3 0 0).replica 3456 (call_accept 0 0 257 (record { id = 7; count = 1; keys = 5 ∷ replicate 7 0 }))).replica in

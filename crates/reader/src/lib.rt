@@ -1,5 +1,5 @@
-// A reader of a lent trace: the lent bytes and a place in them. Its functions are thin, and proved by hand; every branch stands in the two
-// functions over plain bytes below them.
+// A reader of a lent trace: the lent bytes and a place in them. Its functions are thin; every branch stands in the two functions over plain
+// bytes below them.
 #![tactic(auto)]
 
 ghost use Rattle.std.specs.Prelude.{◌≡◌};

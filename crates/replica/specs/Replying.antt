@@ -62,6 +62,6 @@ carried r bars w i j m acts g =
       actions = acts ++ gather (λ k. enter_acts (r.sc.start + k) m.ballot (slot_at (placed w i j g) k)) j (swept_to w j g);
     }))
 
--- replyOn past its tests
+-- reply_on past its tests
 unfoldable pub reply_at : Replica → ℕ → Reply → ℕ → ℕ → Outcome
 reply_at r peer m i j = or_kept r (replied_on (tabled r peer m.bar) (noted r.sc (appended r i j) i peer) i j peer m (append_acts r i))

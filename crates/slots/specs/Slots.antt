@@ -47,8 +47,8 @@ null_slot =
       wal_offset = 0;
     }
 
--- what an index past the end of an array of slots reads. No replica holds it: its lists of keys have no elements, where those of emptyBatch and
--- nullSlot have eight zeros
+-- what an index past the end of an array of slots reads. No replica holds it: its lists of keys have no elements, where those of empty_batch and
+-- null_slot have eight zeros
 abbrev pub no_batch : Batch
 no_batch = record { id = 0; count = 0; keys = [] }
 

@@ -132,7 +132,7 @@ accept_puts_back r room peer slot ballot b h base =
     ap (λ (s : Slot). s.status) (put_at (accept_window r slot) i _ (omega arith) (omega arith)) ∙ rw base)
 
 -- ── 2.2, P1a: a proposal that the paper's acceptor accepts, in a batch's numbers and from the ballot's owner, is refused where the slot lies past the
--- window (5), where the slot has a larger ballot (6: on no replica reached from a new one, never-high-accept), and where the key table is full (7) ──
+-- window (5), where the slot has a larger ballot (6: on no replica reached from a new one, never_high_accept), and where the key table is full (7) ──
 module _ (r : Replica) (room peer slot ballot : ℕ) (b : Batch) (f : ready r room ≡ true) (p : is_peer r.sc peer ≡ true) (o : owns ballot peer ≡ true)
     (q : is_batch b.id b.count ≡ true) (l : r.sc.start ≤ slot) (may : may_accept r.sc.bal_max_seen ballot ≡ true) where
   pub accept_5 : r.sc.start + 64 ≤ slot → step r room (call_accept peer slot ballot b) ≡ kept 5 r

@@ -144,7 +144,7 @@ own_enters_with r room slot bal size h =
 
 -- ── the whole sentence ──
 -- 2.2, phase 2 (a), of an Accept at a ballot that the last call c of a history gives: it is of a slot s and a batch b; where nothing was heard of s
--- at the start (Choice.step-up-unheard, absent-unheard) and self led through all of it at one ballot, b is the paper's choice among the votes heard,
+-- at the start (Choice.step_up_unheard, absent_unheard) and self led through all of it at one ballot, b is the paper's choice among the votes heard,
 -- else what the slot held at the start
 abbrev pub WithChoice : Replica → List Lent → Lent → ℕ → Act → Type 0
 WithChoice r h c ballot x =

@@ -199,7 +199,7 @@ pub reply_commits_met : commit_of 0 258 ∈ (step (play (leader 1) by_reply) 345
 unfolding by_reply new_replica fit fit_scalars fit_slots fit_reads fit_slot filled noting settled counted_on voted_on replied_on reply_on prepare_reply_step prepare_on prepare_step last_used accept_reply_step first_open last_open lead_on step_up timeout_step prepared_done moved_accept accepted_done logged_on logged_step decide_vote decide_count decide_promised decide_accepted decide_accept_reply not_above least_majority with_bar with_fallen has insert count count_in make_batch note_key note_keys new_keys place_in overfull_in scan counts
 reply_commits_met = Memᴰ.head refl
 
--- so the hypotheses of commit-by-own, commit-by-reply and commits-meet are met
+-- so the hypotheses of commit_by_own, commit_by_reply and commits_meet are met
 pub commits_met : (m : ℕ) × (m < 3)
     × (has (acks_of (step (play (leader 0) by_own) 3456 (call_logged (completion AcceptData 0 257 80))).replica.window (place (play (leader 0) by_own).sc 0)) m ≡ true)
     × (has (acks_of (step (play (leader 1) by_reply) 3456 (call_accept_reply 2 0 258)).replica.window (place (play (leader 1) by_reply).sc 0)) m ≡ true)
