@@ -8,13 +8,12 @@ mod line;
 mod say;
 
 use std::io;
-use std::io::{BufWriter, Write};
 
 fn main(rt: HostRuntime) -> io::Result<()> {
-    let mut out = BufWriter::new(rt.alloc(), io::writer(&rt))?;
+    let mut out = rt.stdout();
     heading::print(&mut out)?;
     for set in 0..512 {
         line::print(&mut out, set)?;
     }
-    out.flush()
+    Ok(())
 }

@@ -9,10 +9,9 @@ use batch::{Batch, empty_batch};
 use replica::Entry;
 use rounds::Group;
 use std::io;
-use std::io::{BufWriter, Write};
 
 fn main(rt: HostRuntime) -> io::Result<()> {
-    let mut out = BufWriter::new(rt.alloc(), io::writer(&rt))?;
+    let mut out = rt.stdout();
     let mut room = [0u64; 3456];
     let none = empty_batch();
     let seven = Batch {
@@ -41,5 +40,5 @@ fn main(rt: HostRuntime) -> io::Result<()> {
     g = g.followed(&mut out, &mut room)?;
     g = g.executed(&mut out, &mut room, 1)?;
     g.late(&mut out, &mut room)?;
-    out.flush()
+    Ok(())
 }

@@ -85,7 +85,7 @@ module _ (room id : ℕ) (said : ℕ → Tally) (r : Replica) (on : ready r room
       (λ (o : Outcome). Ignored (m ∷ ms) (replied room id said o.replica ms) (o.actions ++ replied_acts room id said o.replica ms) (o.answer ∷ replied_answers room id said o.replica ms))
       (sym one) (record { replica = rest.replica; actions = rest.actions; zeros = (refl, rest.zeros) })
 
--- THE THEOREM
+-- THE THEOREM: `in_any_order`, whose proof ends in proofs/InARow
 
 -- what is said of the replies, of the read alone: a fit replica's tally has its places, its set is a group's
 pub Agreed-of : (id : ℕ) (said : ℕ → Tally) (r : Replica) (ms : List ℕ) → ReadOpen id r → AgreeingReplies id said r ms → Agreed said (read_of r id) ms

@@ -8,13 +8,12 @@ mod say;
 mod sets;
 
 use std::io;
-use std::io::{BufWriter, Write};
 
 fn main(rt: HostRuntime) -> io::Result<()> {
-    let mut out = BufWriter::new(rt.alloc(), io::writer(&rt))?;
+    let mut out = rt.stdout();
     merges::run(&mut out)?;
     sets::run(&mut out)?;
     batches::run(&mut out)?;
     reads::run(&mut out)?;
-    out.flush()
+    Ok(())
 }

@@ -7,7 +7,7 @@ ghost use Rattle.reader.specs.Steps.{after_at, step_at, started, moved_on};
 
 use trace::{Next, Record, next_record, record_at};
 
-#[derive(Drop)]
+#[derive(Clone, Copy)]
 pub struct Reader<'a> {
     pub bytes: &'a [u8],
     pub at: usize,
