@@ -1,6 +1,10 @@
-# awk -f scripts/promises.awk FILE: 'name|given|wrong' for each `pub fn` of a source, also of one in an inline module. The name is Type::name for a method;
-# given is 1 where the promise gives the whole outcome by equations; wrong is what is wrong with it. The outcome is the result and what each `&mut` holds
-# after the call. What stands under `#[test]` or `#[cfg(test)]` no host can reach: it is passed over.
+# awk -f scripts/promises.awk FILE: 'name|given|wrong' for each `pub fn` of a source, also of one in an inline module, and for each function of a `pub trait`
+# and of an `impl` of a trait. The name is Type::name for a method, Trait::name for a trait's, and what the prover calls it for one of an `impl`: the type, the
+# trait and what the trait is of, as in KindTryFromU64::try_from. given is 1 where the promise gives the whole outcome by equations; wrong is what is wrong
+# with it; a trait's function without a body, which says what who implements the trait owes, is told only where something is wrong with it. The outcome is the result and
+# what each `&mut` holds after the call. The promise of an `impl` is its own `ensures`, or the ghost member by which the trait says what comes out (`eq`,
+# `cmp`, `from_gives` ..); an `impl` of a trait of the same file has the trait's, and one of Display, Debug or Error none. What stands under `#[test]` or
+# `#[cfg(test)]` no host can reach: it is passed over.
 
 # comments left out, literals emptied; a lifetime and a prime stay
 function cleaned(s,   out, found, before, first, character) {
@@ -186,7 +190,7 @@ function without(s, word) {
 }
 
 # what follows `pub`: a function's head is looked at, and the rest is handed back from its body on
-function public(s,   name, i, found, clause, label, wrong, given, part, clauses, before, vain) {
+function public(s, told, member,   name, i, found, clause, label, wrong, given, part, clauses, before, vain) {
   if (!match(s, /^[ \n]+((const|unsafe|extern|"")[ \n]+)*fn[ \n]+[A-Za-z_][A-Za-z0-9_]*/)) return s
   name = substr(s, 1, RLENGTH)
   s = past_parameters(substr(s, RLENGTH + 1))
@@ -220,12 +224,14 @@ function public(s,   name, i, found, clause, label, wrong, given, part, clauses,
   given = 1
   for (part in outcome) {
     if (outcome[part] !~ /given/) given = 0
-    if (facts && outcome[part] == "") wrong = wrong "says nothing of " (part == "" ? "what it hands back" : part " after the call") "; "
+    if (clauses && facts && outcome[part] == "") wrong = wrong "says nothing of " (part == "" ? "what it hands back" : part " after the call") "; "
   }
-  if (!clauses) wrong = wrong "has no ensures; "
+  if (!clauses && told != "") { given = told ~ /≡/; if (empty(told, "")) wrong = wrong "promises what every outcome meets; " }
+  else if (!clauses) wrong = wrong "has no ensures; "
   else if (!facts) wrong = wrong "promises what every outcome meets; "
   else wrong = wrong vain
   sub(/; $/, "", wrong)
+  if (member == "trait" && found == ";" && wrong == "") return s
   print type[depth] name "|" given "|" wrong
   return s
 }
@@ -272,9 +278,34 @@ function type_of(s) {
   return match(s, /[A-Z][A-Za-z0-9_]*/) ? substr(s, RSTART, RLENGTH) "::" : ""
 }
 
+# the name of an `impl` of a trait, as the prover has it, and the trait; nothing for another `impl`
+function trait_of(s,   params, name) {
+  s = past_parameters(s)
+  s = substr(s, 1, index(s, "{") - 1)
+  if (s !~ /[ \n]for[ \n]/) return ""
+  sub(/[ \n]for[ \n].*/, "", s)
+  params = index(s, "<") ? substr(s, index(s, "<") + 1) : ""
+  sub(/<.*/, "", s)
+  gsub(/[A-Za-z_0-9]+::/, "", s)
+  gsub(/[^A-Za-z0-9_]/, "", s)
+  gsub(/[A-Za-z_0-9]+::/, "", params)
+  while (match(params, /[A-Za-z_][A-Za-z0-9_]*/)) {
+    name = name toupper(substr(params, RSTART, 1)) substr(params, RSTART + 1, RLENGTH - 1)
+    params = substr(params, RSTART + RLENGTH)
+  }
+  trait = s
+  return s name
+}
+
 { text = text $0 "\n" }
 END {
-  s = cleaned(text)
+  s = rest = cleaned(text)
+  while (match(rest, /[^A-Za-z0-9_]trait[ \n]+[A-Za-z_0-9]+/)) {
+    word = substr(rest, RSTART, RLENGTH)
+    rest = substr(rest, RSTART + RLENGTH)
+    sub(/.*[ \n]/, "", word)
+    own[word] = 1
+  }
   start = 1 # whether an item may begin here
   while (match(s, /#!?\[|[{}]|[A-Za-z_][A-Za-z0-9_]*/)) {
     word = substr(s, RSTART, RLENGTH)
@@ -290,10 +321,32 @@ END {
       continue
     }
     s = substr(s, RSTART + RLENGTH)
-    if (word == "{") { depth++; type[depth] = next_type == "" ? type[depth - 1] : next_type; next_type = "" }
-    else if (word == "}") depth--
-    else if (word == "impl" && start) next_type = type_of(s)
-    else if (word == "pub") s = public(s)
+    if (word == "{") {
+      depth++
+      type[depth] = next_type == "" ? type[depth - 1] : next_type
+      members[depth] = next_members
+      told[depth] = next_type = next_members = ""
+    } else if (word == "}") depth--
+    else if (word == "impl" && start) {
+      next_type = type_of(s)
+      between = trait_of(s)
+      if (between != "") {
+        next_members = program || trait in own || trait ~ /^(Display|Debug|Error)$/ ? "" : "impl"
+        sub(/::$/, between "::", next_type)
+      }
+    } else if (word == "pub" && match(s, /^[ \n]+(unsafe[ \n]+)?trait[ \n]+[A-Za-z_0-9]+/)) {
+      next_type = substr(s, 1, RLENGTH)
+      sub(/.*[ \n]/, "", next_type)
+      next_type = next_type "::"
+      next_members = "trait"
+    } else if (word == "pub") s = public(s, "", "")
+    else if (word == "ghost" && members[depth] != "") {
+      match(s, /[A-Za-z_0-9]+/)
+      word = substr(s, RSTART, RLENGTH)
+      if (word ~ /^(eq|cmp|partial_cmp|.*_gives)$/) told[depth] = word == "eq" ? "eq self other ≡ result" : substr(s, index(s, "{") + 1, closes(s, index(s, "{")) - index(s, "{") - 1)
+      s = substr(s, closes(s, index(s, "{")) + 1)
+      word = "}"
+    } else if (word == "fn" && members[depth] != "") s = public(" fn" s, told[depth], members[depth])
     start = word ~ /^([{}]|unsafe)$/
   }
 }

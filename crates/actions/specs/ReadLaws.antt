@@ -1,13 +1,18 @@
 -- The laws of reading: a row by its kind, and that what was written is read back.
-use Rattle.std.specs.Prelude.{◌≡◌, refl, Bool, true, List, [], ◌∷◌, ◌++◌, ℕ, zero, suc, ◌+◌, ◌*◌, ◌≤◌, ◌<◌, leb, length, get_or, set, take, drop, replicate}
-use Rattle.std.proofs.Common.{sym, ap, ◌∙◌, append_assoc, append-nil, zero-add, arith, length-drop, drop_of_length-le, take_at, drop_at, length-take-le, get_or-drop, drop-cons}
+use Rattle.std.specs.Prelude.{◌≡◌, refl, Bool, true, false, ◌⊎◌, List, [], ◌∷◌, ◌++◌, ℕ, zero, suc, ◌+◌, ◌*◌, ◌≤◌, ◌<◌, leb, length, get_or, set, take, drop, replicate}
+use Rattle.std.specs.declared.option.Option.{Option}
+use Rattle.std.specs.declared.option.Option.TheVariants.{None, Some}
+use Rattle.base.specs.Pick.{pick, decide, clash}
+use borrow.Rule.Slice.PartMut.{put_mid}
+use Rattle.std.proofs.Common.{inl, inr, sym, ap, ◌∙◌, append_assoc, append-nil, zero-add, arith, length-drop, drop_of_length-le, take_at, drop_at, length-take-le, get_or-drop, drop-cons}
 use Rattle.std.proofs.Math.Bool.{or-true}
 use Rattle.std.proofs.Math.Seq.{drop-append-add, paste}
 use borrow.Author.Tests.{le-leb, lt-leb, lt-ltb, le-ltb, ne_eqb}
 use Rattle.actions.specs.declared.Action.{Action}
 use Rattle.actions.specs.declared.Action.TheVariants.{PrepareBal, AcceptData, CommitSlot, Prepare, PrepareReply, Accept, AcceptReply, CommitNotice, Heartbeat, StatusUp, StatusDown, Execute, ReadAnswer}
-use Rattle.actions.specs.Actions.{Act, act, eight_of, keys_for, numbers_of, flat, write_at, write_actions, put_act}
-use Rattle.actions.specs.Reading.{action_of, row_action, row_keys, is_kind, nothing_read, read_row, read_act}
+use Rattle.actions.specs.declared.Got as code
+use Rattle.actions.specs.Actions.{Act, no_keys, act, eight_of, keys_for, numbers_of, flat, write_at, write_actions, put_act}
+use Rattle.actions.specs.Reading.{Got, seen, row_kept, action_of, row_action, row_keys, is_kind, nothing_read, read_row, read_act}
 use Rattle.actions.specs.Laws.{length_numbers, put_in, length_put, length_front, paste_turn}
 
 -- a turn of the loop that reads 18 numbers, and what it leaves
@@ -39,6 +44,29 @@ eight_of_lem l h =
   where
     turn : (j : ℕ) → j < 8 → get_or l j 0 ∷ drop (suc j) l ≡ drop j l
     turn j p = sym (drop-cons l j 0 (omega arith))
+
+-- ten numbers of its own, and eight keys beside them
+own_then : (a : Action) (keys : List ℕ) → take 10 (numbers_of a no_keys) ++ eight_of keys ≡ numbers_of a keys
+own_then (PrepareBal p) keys = refl
+own_then (AcceptData p) keys = refl
+own_then (CommitSlot p) keys = refl
+own_then (Prepare p) keys = refl
+own_then (PrepareReply p) keys = refl
+own_then (Accept p) keys = refl
+own_then (AcceptReply p) keys = refl
+own_then (CommitNotice p) keys = refl
+own_then Heartbeat keys = refl
+own_then StatusUp keys = refl
+own_then StatusDown keys = refl
+own_then (Execute p) keys = refl
+own_then (ReadAnswer p) keys = refl
+
+pub row_made : (a : Action) (keys own rest : List ℕ) → length keys ≡ 8 → own ≡ take 10 (numbers_of a no_keys) → rest ≡ keys
+    → put_mid 10 8 (own ++ no_keys) rest ≡ numbers_of a keys
+row_made a keys own rest h e f =
+    let n : length (take 10 (numbers_of a no_keys)) ≡ 10 = length-take-le 10 (numbers_of a no_keys) (omega (arith, length_numbers a no_keys)) in
+    rw (e, f, take_at (take 10 (numbers_of a no_keys)) no_keys 10 n, drop_at (take 10 (numbers_of a no_keys)) no_keys 10 n, append-nil keys)
+    (ap (λ (x : List ℕ). take 10 (numbers_of a no_keys) ++ x) (sym (eight_of_lem keys h)) ∙ own_then a keys)
 
 -- what the numbers of an action say
 pub read_of_numbers : (a : Action) (keys : List ℕ) → read_row (numbers_of a keys) ≡ record { found = true; what = a; keys = keys_for a (eight_of keys) }
@@ -110,6 +138,46 @@ module _ (l : List ℕ) where
       → record { found = t; what = a; keys = own } ≡ read_row l
   unfolding read_row
   row_read t a keys own e f g h = rw (h, g, f, e)
+
+  -- what the code says of a row: its action where it has a kind, and none where it has not
+  pub kept_is : (n : ℕ) → get_or l 0 0 ≡ n
+      → pick (is_kind n) (Some (action_of n (get_or l 1 0) (get_or l 2 0) (get_or l 3 0) (get_or l 4 0) (get_or l 5 0) (get_or l 6 0) (get_or l 7 0) (get_or l 8 0) (get_or l 9 0))) None
+      ≡ row_kept l
+  kept_is n e = rw e
+
+  outside : is_kind (get_or l 0 0) ≡ false → (n : ℕ) → is_kind n ≡ true → IsNot n
+  outside f n t e = clash (ap is_kind e ∙ t) f
+
+  pub none_kept : None ≡ row_kept l → nothing_read ≡ read_row l
+  none_kept h = go (decide (is_kind (get_or l 0 0)))
+    where
+      go : (is_kind (get_or l 0 0) ≡ true) ⊎ (is_kind (get_or l 0 0) ≡ false) → nothing_read ≡ read_row l
+      go (inl t) = let z : ◌≡◌ {A = ℕ} 0 1 = cc (rw t at h) in absurd (omega arith)
+      go (inr f) =
+          let no : (n : ℕ) → is_kind n ≡ true → IsNot n = outside f in
+          row_read false Heartbeat (row_keys l) no_keys (sym f)
+          (no_kind ((((((((((((tt, no 1 refl), no 2 refl), no 3 refl), no 4 refl), no 5 refl), no 6 refl), no 7 refl), no 8 refl), no 10 refl), no 11 refl), no 12 refl), no 13 refl))
+          refl refl
+
+  pub some_kept : (a : Action) (own : List ℕ) → Some a ≡ row_kept l → own ≡ keys_for a (row_keys l) → record { found = true; what = a; keys = own } ≡ read_row l
+  some_kept a own h e = go (decide (is_kind (get_or l 0 0)))
+    where
+      go : (is_kind (get_or l 0 0) ≡ true) ⊎ (is_kind (get_or l 0 0) ≡ false) → record { found = true; what = a; keys = own } ≡ read_row l
+      go (inl t) = let k : a ≡ row_action l = cc (rw t at h) in row_read true a (row_keys l) own (sym t) k refl e
+      go (inr f) = let z : ◌≡◌ {A = ℕ} 0 1 = cc (rw f at h) in absurd (omega arith)
+
+-- what the code hands back is told by what is seen of it
+pub seen_unique : (x y : Option code.Got) → seen x ≡ seen y → x ≡ y
+seen_unique None None e = refl
+seen_unique None (Some g) e = absurd (clash refl (sym (ap (λ (r : Got). r.found) e)))
+seen_unique (Some g) None e = absurd (clash refl (ap (λ (r : Got). r.found) e))
+seen_unique (Some g) (Some h) e =
+    let w : g.what ≡ h.what = ap (λ (r : Got). r.what) e in
+    let k : g.keys ≡ h.keys = ap (λ (r : Got). r.keys) e in
+    ap Some (alike w k)
+  where
+    alike : g.what ≡ h.what → g.keys ≡ h.keys → g ≡ h
+    alike w k = let r : code.Got = record { what = g.what; keys = g.keys } in rw (w, k)
 
 -- where there is a row, and where there is none
 pub read_in : (room : List ℕ) (k : ℕ) → k < 192 → 3456 ≤ length room → read_act room k ≡ read_row (take 18 (drop (18 * k) room))

@@ -1,10 +1,18 @@
 -- An action read back from the room. The numbers of a row that its kind does not use are ignored.
-use Rattle.std.specs.Prelude.{Bool, false, ◌&&◌, ◌||◌, List, [], ◌∷◌, ℕ, ◌*◌, ltb, leb, eqb, length, get_or, take, drop}
+use Rattle.std.specs.Prelude.{Bool, true, false, ◌&&◌, ◌||◌, List, [], ◌∷◌, ℕ, ◌*◌, ltb, leb, eqb, length, get_or, take, drop}
+use Rattle.std.specs.declared.option.Option.{Option}
+use Rattle.std.specs.declared.option.Option.TheVariants.{None, Some}
 use Rattle.base.specs.Pick.{pick}
 use Rattle.actions.specs.declared.Action.{Action}
 use Rattle.actions.specs.declared.Action.TheVariants.{PrepareBal, AcceptData, CommitSlot, Prepare, PrepareReply, Accept, AcceptReply, CommitNotice, Heartbeat, StatusUp, StatusDown, Execute, ReadAnswer}
-use Rattle.actions.specs.declared.Got.{Got}
+use Rattle.actions.specs.declared.Got as code
 use Rattle.actions.specs.Actions.{no_keys, keys_for}
+
+-- an action with its keys, and whether there is one
+pub record Got : Type 0 where
+  pub found : Bool
+  pub what : Action
+  pub keys : List ℕ
 
 -- by its kind; a heartbeat at 9, and where there is no such kind
 unfoldable pub action_of : ℕ → ℕ → ℕ → ℕ → ℕ → ℕ → ℕ → ℕ → ℕ → ℕ → Action
@@ -37,6 +45,15 @@ is_kind kind = leb 1 kind && leb kind 13
 
 abbrev pub nothing_read : Got
 nothing_read = record { found = false; what = Heartbeat; keys = no_keys }
+
+-- what the code hands back: none is a heartbeat that was not found
+abbrev pub seen : Option code.Got → Got
+seen None = nothing_read
+seen (Some g) = record { found = true; what = g.what; keys = g.keys }
+
+-- the action of a row that has a kind
+abbrev pub row_kept : List ℕ → Option Action
+row_kept l = pick (is_kind (get_or l 0 0)) (Some (row_action l)) None
 
 -- what the 18 numbers say
 unfoldable pub read_row : List ℕ → Got

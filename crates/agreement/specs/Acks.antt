@@ -15,7 +15,7 @@ use Rattle.actions.specs.Actions.{Act}
 use Rattle.slots.specs.Slots.{accepting}
 use Rattle.decide.specs.Scalars.{leads, may_be}
 use Rattle.replica.specs.declared.Replica.{Replica}
-use Rattle.replica.specs.declared.Made.{Made}
+use Rattle.replica.specs.Seen.{Made}
 use Rattle.replica.specs.Record.{new_replica, fresh, zero_replica, number}
 use Rattle.replica.specs.Step.{Call, call_prepare, call_prepare_reply, call_accept, call_accept_reply, call_commit_notice, call_timeout, call_logged, call_offer, call_executed, call_open_read, call_read_reply, step, received}
 use Rattle.laws.proofs.Theorems.{refusals_keep}

@@ -18,7 +18,7 @@ use Rattle.decide.specs.Scalars.{may_be}
 use Rattle.window.specs.Window.{no_slots}
 use Rattle.window.specs.ByPlace.{at_past}
 use Rattle.replica.specs.declared.Replica.{Replica}
-use Rattle.replica.specs.declared.Made.{Made}
+use Rattle.replica.specs.Seen.{Made}
 use Rattle.replica.specs.Record.{Outcome, new_replica, fresh, zero_replica, log_end}
 use Rattle.replica.specs.Messages.{clean}
 use Rattle.replica.specs.Step.{Call, call_prepare, call_prepare_reply, call_accept, call_accept_reply, call_commit_notice, call_timeout, call_logged, call_offer, call_executed, call_open_read, call_read_reply, step, received}

@@ -7,7 +7,7 @@ use Rattle.base.specs.Gather.{gather, All-gather}
 use Rattle.base.specs.Among.{All, All-append}
 use Rattle.members.specs.Ballots.{owns}
 use Rattle.batch.specs.declared.Batch.{Batch}
-use Rattle.batch.specs.declared.Made.{Made}
+use Rattle.batch.specs.Batches.{Made}
 use Rattle.batch.specs.Batches.{empty_batch, is_batch, make_batch, first_keys}
 use Rattle.actions.specs.declared.Says.{Says}
 use Rattle.actions.specs.declared.Action.TheVariants.{StatusDown}

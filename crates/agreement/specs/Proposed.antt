@@ -15,7 +15,7 @@ use Rattle.decide.specs.Scalars.{may_be}
 use Rattle.window.specs.declared.Window.{Window}
 use Rattle.window.specs.Window.{no_slots}
 use Rattle.window.specs.ByPlace.{at_past}
-use Rattle.replica.specs.declared.Made.{Made}
+use Rattle.replica.specs.Seen.{Made}
 use Rattle.replica.specs.Record.{new_replica}
 use Rattle.voting.specs.Paper.{Majority, OnlyProposed}
 use Rattle.agreement.specs.Theorem.{Group, Mark, World, begin, Reach, begins, accept_entry}

@@ -6,3 +6,4 @@ pub mod Scan
 pub mod HowMany
 pub mod Among
 pub mod Tables
+pub mod Spans

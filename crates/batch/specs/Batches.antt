@@ -1,8 +1,7 @@
 -- Batches. 01: "Batch: a 64-bit id with a list of 0 to 8 key numbers it puts; id 0 = empty, no keys."
-use Rattle.std.specs.Prelude.{Bool, true, false, not, ◌&&◌, ◌||◌, List, [], ◌∷◌, ℕ, ltb, leb, eqb, get_or, take, replicate}
+use Rattle.std.specs.Prelude.{Option, Some, None, Bool, true, false, not, ◌&&◌, ◌||◌, List, [], ◌∷◌, ℕ, ltb, leb, eqb, get_or, take, replicate}
 use Rattle.base.specs.Pick.{pick}
 use Rattle.batch.specs.declared.Batch.{Batch}
-use Rattle.batch.specs.declared.Made.{Made}
 
 abbrev pub empty_batch : Batch
 empty_batch = record { id = 0; count = 0; keys = replicate 8 0 }
@@ -22,6 +21,16 @@ first_keys n l = key_at n l 0 ∷ key_at n l 1 ∷ key_at n l 2 ∷ key_at n l 3
 -- 10: "list or batch with numbers outside the above": more than 8 keys, or keys at id 0
 abbrev pub is_batch : ℕ → ℕ → Bool
 is_batch id count = leb count 8 && (not (eqb id 0) || eqb count 0)
+
+-- a batch made from numbers: the answer 0, or 10 and the empty batch
+pub record Made : Type 0 where
+  pub answer : ℕ
+  pub batch : Batch
+
+-- the code says 10 by no batch
+abbrev pub made : Option Batch → Made
+made None = record { answer = 10; batch = empty_batch }
+made (Some b) = record { answer = 0; batch = b }
 
 unfoldable pub make_batch : ℕ → ℕ → List ℕ → Made
 make_batch id count keys =

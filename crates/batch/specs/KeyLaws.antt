@@ -1,5 +1,5 @@
 -- Laws of the highest-slot table: where a key is found, what noting a key does to every key's slot, and how the count grows.
-use Rattle.std.specs.Prelude.{◌≡◌, Bool, true, false, not, ◌&&◌, ◌||◌, ◌⊎◌, List, ltb, leb, eqb, length, get_or, set}
+use Rattle.std.specs.Prelude.{Option, min, take, ◌≡◌, Bool, true, false, not, ◌&&◌, ◌||◌, ◌⊎◌, List, ltb, leb, eqb, length, get_or, set}
 use Rattle.std.proofs.Math.Path.{refl, sym}
 use Rattle.std.proofs.Common.{ap, ◌∙◌, inl, inr, ⊎_elim, le_refl, eq-or-lt_of_le, add-one, length-set, get_or-set_same, get_or-set_other}
 use Rattle.std.proofs.Math.Bool.{or-true, or-false}
@@ -8,12 +8,17 @@ use native.Mathlib.Omega.{arith}
 use borrow.Author.Tests.{ltb-true, ltb-false, lt-ltb, le-ltb, le-leb, lt-leb, leb-true, leb-false, eqb-true, eq-eqb, ne_eqb, not-false}
 use Rattle.base.specs.Pick.{pick_cases, larger, larger_left, larger_right, decide, clash, same?, tests}
 use Rattle.base.specs.Find.{any, any_more, any_found}
+use Rattle.base.specs.Spans.{any_front, scan_front, position_or_end}
+use Rattle.std.specs.List.{list_any, position}
+use Rattle.std.specs.Option.{unwrap_or}
+use Rattle.std.proofs.lemmas.List.{length-take, length-take-le, get_or-take}
+use mir.Val.{bool_byte}
 use Rattle.base.specs.Scan.{scan, scan_passed, scan_stopped}
 use Rattle.batch.specs.declared.Batch.{Batch}
 use Rattle.batch.specs.declared.KeyTable.{KeyTable}
 use Rattle.batch.specs.Batches.{clip, key_count}
-use Rattle.batch.specs.Laws.{clip_is}
-use Rattle.batch.specs.Keys.{empty_table, other_at, place_in, holds, place_of, knows, slot_for, raised, added, note_key, note_keys, count1, same_at, repeats, is_new, new_keys, overfull_in}
+use Rattle.batch.specs.Laws.{clip_is, clip-min, clip_within}
+use Rattle.batch.specs.Keys.{empty_table, other_at, place_in, holds, place_of, knows, slot_for, raised, added, note_key, note_keys, refresh, count1, same_at, repeats, is_new, new_keys, overfull_in}
 
 pub other_here : (used : List ℕ) (key i : ℕ) → get_or used i 0 ≡ key → other_at used key i ≡ false
 other_here used key i e = rw (eq-eqb (get_or used i 0) key e)
@@ -53,6 +58,14 @@ module _ (used : List ℕ) (count key : ℕ) where
   place_is i h e f =
       let l = place_low i e in
       ⊎_elim (λ (p : place_in used count key ≡ i). p) (λ (u : place_in used count key < i). absurd (f _ u (holds_at (holds_here i h e)))) (eq-or-lt_of_le l)
+
+-- the code's search
+pub found_place : (used : List ℕ) (count key n : ℕ) → length used ≡ 256 → n ≡ min count 256 → (r : Option ℕ) → r ≡ position (λ k. eqb k key) (take n used)
+    → unwrap_or r n ≡ place_in used count key
+unfolding place_in
+found_place used count key n e u r q =
+    let p : ℕ → Bool = λ k. eqb k key in
+    rw (q, position_or_end p (take n used) n (length-take-le n used (omega arith)), ← (u ∙ clip-min 256 count)) (sym (scan_front p 0 used n (omega arith)))
 
 -- noting a key: the three cases
 module _ (slot : ℕ) (t : KeyTable) (key : ℕ) where
@@ -225,6 +238,19 @@ pub notes_more : (slot : ℕ) (keys : List ℕ) (t s r : KeyTable) (i : ℕ) →
 unfolding note_keys
 notes_more slot keys t s r i p q = rw (add-one i, ← p) q
 
+-- a turn of the code's loop over the first n keys, and its end
+pub notes_next : (slot : ℕ) (keys : List ℕ) (n : ℕ) (t s r : KeyTable) (i : ℕ) → i < length (take n keys) → s ≡ note_keys slot keys t i
+    → r ≡ note_key slot s (get_or (take n keys) i 0) → r ≡ note_keys slot keys t (i + 1)
+notes_next slot keys n t s r i h p q =
+    notes_more slot keys t s r i p (q ∙ ap (note_key slot s) (get_or-take n keys i 0 (omega (arith, simp length-take at h))))
+
+pub notes_all : (slot : ℕ) (b : Batch) (t s : KeyTable) (n i : ℕ) → length b.keys ≡ 8 → n ≡ key_count b → i ≤ length (take n b.keys) → length (take n b.keys) ≤ i
+    → s ≡ note_keys slot b.keys t i → s ≡ refresh slot b t
+notes_all slot b t s n i e u h l p =
+    let long = length-take-le n b.keys (omega (arith, clip_within 8 b.count)) in
+    let q : i ≡ key_count b = omega arith in
+    p ∙ ap (note_keys slot b.keys t) q
+
 -- noting a key by the place where it was looked for
 module _ (slot : ℕ) (t : KeyTable) (key at used : ℕ) (u : used ≡ clip 256 t.count) (p : at ≡ place_of t key) where
   pub found_knows : at < used → knows t key ≡ true
@@ -272,9 +298,19 @@ module _ (used : List ℕ) (count : ℕ) (keys : List ℕ) (i at end : ℕ) (u :
       let e : holds used count (get_or keys i 0) ≡ false = le-ltb (place_in used count (get_or keys i 0)) (clip 256 count) (omega arith) in
       rw (e, ← f)
 
+  -- by the code's search of what stands before it
+  pub new_here : end ≤ at → i ≤ length keys → (t : Bool) → t ≡ list_any (λ k. eqb k (get_or keys i 0)) (take i keys) → not t ≡ is_new used count keys i
+  new_here h l t q =
+      let e : holds used count (get_or keys i 0) ≡ false = le-ltb (place_in used count (get_or keys i 0)) (clip 256 count) (omega arith) in
+      rw (e, q) (ap not (sym (any_front (λ k. eqb k (get_or keys i 0)) 0 keys i l)))
+
 pub count1_few : (b : Bool) → count1 b ≤ 1
 count1_few true = omega arith
 count1_few false = omega arith
+
+pub count1-byte : (b : Bool) → bool_byte b ≡ count1 b
+count1-byte true = refl
+count1-byte false = refl
 
 module _ (used : List ℕ) (count : ℕ) (keys : List ℕ) where
   pub new_none : 0 ≡ new_keys used count keys 0

@@ -1,17 +1,34 @@
 -- Laws of batches.
-use Rattle.std.specs.Prelude.{◌≡◌, refl, Bool, true, false, ◌⊎◌, List, [], ◌∷◌, ℕ, zero, suc, ◌+◌, ◌≤◌, ◌<◌, ltb, leb, eqb, get_or, take}
+use lib.Pointwise.{pointwise}
+use Rattle.std.specs.Prelude.{min, max, replicate, drop, ◌++◌, ◌-◌, Option, Some, None, ◌≡◌, refl, Bool, true, false, ◌⊎◌, List, [], ◌∷◌, ℕ, zero, suc, ◌+◌, ◌≤◌, ◌<◌, ltb, leb, eqb, get_or, take}
 use Rattle.std.proofs.Common.{sym, ◌∙◌, inl, inr, ⊎_elim, le_refl, add-one, arith, take-suc, get_or-take, ext_get_or, leb-true, eqb-true, lt-ltb, le-ltb, eq-eqb, ne_eqb}
 use Rattle.std.proofs.Math.Path.{ap}
-use Rattle.std.proofs.Math.ListN.{length}
+use Rattle.std.specs.Cmp.{IsPartialEquivalence}
+use Rattle.std.proofs.Math.ListN.{length, get_or-append}
+use Rattle.std.proofs.lemmas.List.{length-append, length-drop, get_or-drop, get_or-replicate, get_or-append_right}
+use borrow.Author.Tests.{ltb-true, ltb-false}
 use Rattle.std.proofs.Math.Seq.{length-take-le}
-use Rattle.base.specs.Pick.{pick_cases, decide, clash, and_both, and_left, and_make, tests}
+use Rattle.base.specs.Pick.{larger, pick_cases, decide, clash, and_both, and_left, and_make, tests}
 use Rattle.batch.specs.declared.Batch.{Batch}
-use Rattle.batch.specs.declared.Made.{Made}
-use Rattle.batch.specs.Batches.{empty_batch, key_at, first_keys, is_batch, make_batch, clip, key_count, key_list, same_list, same_batch}
+use Rattle.batch.specs.Batches.{Made, made, empty_batch, key_at, first_keys, is_batch, make_batch, clip, key_count, key_list, same_list, same_batch}
 
 -- a count that is no more than the size is the number of places in use
 pub clip_is : (size count : ℕ) → count ≤ size → clip size count ≡ count
 clip_is size count h = rw (le-ltb size count h)
+
+-- it is the smaller of the two
+pub clip-min : (size count : ℕ) → min count size ≡ clip size count
+clip-min size count = pick_cases (λ (x : ℕ). min count size ≡ x) (ltb size count) (λ t. omega (arith, tests)) (λ t. omega (arith, tests))
+
+-- the code's words for the larger of two, and for lists that are the same
+pub larger_is : (a b : ℕ) → max a b ≡ larger a b
+larger_is a b = pick_cases (λ (x : ℕ). max a b ≡ x) (ltb a b) (λ t. omega (arith, tests)) (λ t. omega (arith, tests))
+
+pub same_pointwise : (xs ys : List ℕ) → pointwise eqb xs ys ≡ same_list xs ys
+same_pointwise [] [] = refl
+same_pointwise [] (y ∷ ys) = refl
+same_pointwise (x ∷ xs) [] = refl
+same_pointwise (x ∷ xs) (y ∷ ys) = rw (same_pointwise xs ys)
 
 pub clip_within : (size count : ℕ) → clip size count ≤ size
 clip_within size count = pick_cases (λ (x : ℕ). x ≤ size) (ltb size count) (λ t. le_refl size) (λ t. omega (arith, tests))
@@ -57,6 +74,16 @@ pub is_same : (a b : Batch) → a.id ≡ b.id → key_list a ≡ key_list b → 
 unfolding same_batch
 is_same a b p q = and_make (eq-eqb a.id b.id p) (same_list_equal (key_list a) (key_list b) q)
 
+turned : (a b : Batch) → same_batch a b ≡ true → same_batch b a ≡ true
+turned a b t = let e = same_is a b t in is_same b a (sym e.0) (sym e.1)
+
+-- it is an equality, as `==` asks
+pub same_batch_laws : IsPartialEquivalence same_batch
+same_batch_laws = record {
+  symm = λ a b. ⊎_elim (λ t. t ∙ sym (turned a b t)) (λ f. ⊎_elim (λ u. absurd (clash (turned b a u) f)) (λ g. f ∙ sym g) (decide (same_batch b a))) (decide (same_batch a b));
+  trans = λ a b c p q. let x = same_is a b p in let y = same_is b c q in is_same a c (x.0 ∙ y.0) (x.1 ∙ y.1);
+}
+
 -- the ways in which a comparison of two batches ends
 pub same_id : (a b : Batch) → (a.id ≡ b.id → ⊥) → same_batch a b ≡ false
 unfolding same_batch
@@ -75,6 +102,19 @@ module _ (a b : Batch) (h : a.id ≡ b.id) where
   pub same_lists : (n : ℕ) → n ≡ key_count a → n ≡ key_count b → (t : Bool) → t ≡ same_list (take n a.keys) (take n b.keys) → t ≡ same_batch a b
   unfolding same_batch
   same_lists n p q t e = rw (eq-eqb a.id b.id h, ← p, ← q) e
+
+-- `==`, by the parts of the lists that are compared
+pub same_fronts : (a b : Batch) (n m : ℕ) → n ≡ min a.count 8 → m ≡ min b.count 8 → a.id ≡ b.id → pointwise eqb (take n a.keys) (take m b.keys) ≡ same_batch a b
+unfolding same_batch
+same_fronts a b n m p q e =
+    rw (eq-eqb a.id b.id e, ← (p ∙ clip-min 8 a.count), ← (q ∙ clip-min 8 b.count)) (same_pointwise (take n a.keys) (take m b.keys))
+
+-- what is made tells two values of the code apart, so `make_batch` says which one `make` gives
+pub made_unique : (a b : Option Batch) → made a ≡ made b → a ≡ b
+made_unique None None e = refl
+made_unique None (Some b) e = absurd (let h : ◌≡◌ {A = ℕ} 10 0 = ap (λ (m : Made). m.answer) e in omega arith)
+made_unique (Some a) None e = absurd (let h : ◌≡◌ {A = ℕ} 0 10 = ap (λ (m : Made). m.answer) e in omega arith)
+made_unique (Some a) (Some b) e = ap Some (ap (λ (m : Made). m.batch) e)
 
 -- a batch made from numbers: the answer is 0 or 10
 pub made_answer : (id count : ℕ) (keys : List ℕ) → ((make_batch id count keys).answer ≡ 0) ⊎ ((make_batch id count keys).answer ≡ 10)
@@ -115,6 +155,28 @@ first_at n l (suc (suc (suc (suc (suc (suc (suc (suc i)))))))) h = absurd (omega
 pub first_eight : (n : ℕ) (l : List ℕ) (a b c d e f g h : ℕ) → a ≡ key_at n l 0 → b ≡ key_at n l 1 → c ≡ key_at n l 2 → d ≡ key_at n l 3 → e ≡ key_at n l 4
     → f ≡ key_at n l 5 → g ≡ key_at n l 6 → h ≡ key_at n l 7 → a ∷ b ∷ c ∷ d ∷ e ∷ f ∷ g ∷ h ∷ [] ≡ first_keys n l
 first_eight n l a b c d e f g h p0 p1 p2 p3 p4 p5 p6 p7 = rw (p0, p1, p2, p3, p4, p5, p6, p7)
+
+-- the code's copy of the first n keys over zeros
+pub first_copied : (n count : ℕ) (l kept : List ℕ) → length l ≡ 8 → n ≡ min count 8 → kept ≡ take n l → kept ++ drop n (replicate 8 0) ≡ first_keys count l
+first_copied n count l kept e u k =
+    let p : length (take n l) ≡ n = length-take-le n l (omega arith) in
+    let m : length kept ≡ n = rw k p in
+    let q : length (drop {A = ℕ} n (replicate 8 0)) ≡ 8 - n = length-drop {A = ℕ} n (replicate 8 0) in
+    ext_get_or 0 (kept ++ drop n (replicate 8 0)) (first_keys count l) (length-append kept (drop n (replicate 8 0)) ∙ omega arith)
+    (λ i v.
+    let w : i < 8 = omega (arith, length-append kept (drop n (replicate 8 0))) in
+    at i w (decide (ltb i n)) ∙ sym (first_at count l i w))
+  where
+    at : (i : ℕ) → i < 8 → (ltb i n ≡ true) ⊎ (ltb i n ≡ false) → get_or (kept ++ drop n (replicate 8 0)) i 0 ≡ key_at count l i
+    at i w (inl t) =
+        let h : i < n = ltb-true i n t in
+        let m : length kept ≡ n = rw k (length-take-le n l (omega arith)) in
+        rw (get_or-append kept (drop n (replicate 8 0)) 0 i (omega arith), k, get_or-take n l i 0 h, lt-ltb i count (omega arith))
+    at i w (inr f) =
+        let h : n ≤ i = ltb-false i n f in
+        let m : length kept ≡ n = rw k (length-take-le n l (omega arith)) in
+        let j : n + (i - n) ≡ i = omega arith in
+        rw (get_or-append_right {X = ℕ} kept (drop n (replicate 8 0)) n i 0 m h, get_or-drop {A = ℕ} n (replicate 8 0) (i - n) 0, j, get_or-replicate {A = ℕ} 8 i 0 0 w, le-ltb i count (omega arith))
 
 -- the first keys begin with the list that was given
 pub first_take : (n : ℕ) (l : List ℕ) → n ≤ 8 → length l ≡ 8 → take n (first_keys n l) ≡ take n l

@@ -5,7 +5,6 @@
 
 mod heading;
 mod line;
-mod say;
 
 use std::io;
 

@@ -1,10 +1,11 @@
 -- What a call decides from the scalars and one slot.
-use Rattle.std.specs.Prelude.{Bool, true, false, not, ◌&&◌, ◌||◌, ℕ, ltb, leb, eqb}
+use Rattle.std.specs.Prelude.{Bool, true, false, not, ◌&&◌, ◌||◌, List, ℕ, ltb, leb, eqb, Result, Ok, Err}
 use Rattle.base.specs.Pick.{pick}
 use Rattle.members.specs.Sets.{has, count_in}
 use Rattle.batch.specs.declared.Batch.{Batch}
 use Rattle.batch.specs.Batches.{same_batch}
 use Rattle.actions.specs.declared.Action.TheVariants.{AcceptData, CommitSlot, PrepareReply, Accept, AcceptReply, StatusDown}
+use Rattle.actions.specs.declared.Says.{Says}
 use Rattle.actions.specs.declared.Says.TheVariants.{Nothing, One, Two}
 use Rattle.actions.specs.declared.Proposal.{Proposal}
 use Rattle.actions.specs.Actions.{no_keys}
@@ -12,12 +13,36 @@ use Rattle.slots.specs.declared.Vote.{Vote}
 use Rattle.slots.specs.declared.Slot.{Slot}
 use Rattle.slots.specs.Slots.{preparing, accepting, committed, no_vote, adopted_slot, counted_slot, accepted_slot, acknowledged_slot, committed_slot, offered_slot}
 use Rattle.decide.specs.declared.Scalars.{Scalars}
-use Rattle.decide.specs.declared.Decided.{Decided}
+use Rattle.decide.specs.declared.Decided as code
+use Rattle.decide.specs.declared.Refusal.{Refusal}
+use Rattle.decide.specs.declared.Refusal.TheVariants.{Contradiction, Renamed}
 use Rattle.decide.specs.Scalars.{leads, quorum, strict, followed, steps_down, with_prepared}
+
+-- what a call decides: its answer; the scalars and the slot after it; what it says, with a batch's keys beside it; and whether the slot's batch goes
+-- into the key table
+pub record Decided : Type 0 where
+  pub answer : ℕ
+  pub noted : Bool
+  pub sc : Scalars
+  pub slot : Slot
+  pub says : Says
+  pub keys : List ℕ
 
 -- nothing is said: ignored, refused, or only noted
 abbrev pub silent : ℕ → Scalars → Slot → Decided
 silent answer sc s = record { answer = answer; noted = false; sc = sc; slot = s; says = Nothing; keys = no_keys }
+
+-- the code's values: a refusal has the paper's number, a call that goes through has 0, and a refused one leaves the scalars and the slot as they were
+abbrev pub number : Refusal → ℕ
+number Contradiction = 6
+number Renamed = 15
+
+abbrev pub as_done : code.Decided → Decided
+as_done d = record { answer = 0; noted = d.noted; sc = d.sc; slot = d.slot; says = d.says; keys = d.keys }
+
+abbrev pub decided : Scalars → Slot → Result code.Decided Refusal → Decided
+decided sc s (Ok d) = as_done d
+decided sc s (Err e) = silent (number e) sc s
 
 abbrev pub proposal : ℕ → ℕ → Batch → Proposal
 proposal slot ballot b = record { slot = slot; ballot = ballot; batch = b.id; count = b.count }

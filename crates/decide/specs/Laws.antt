@@ -1,7 +1,7 @@
 -- Laws of the decisions: what none of them changes, and that each keeps a slot fit.
-use Rattle.std.specs.Prelude.{◌≡◌, Bool, true, ◌&&◌, ◌||◌, ℕ, ◌≤◌, ◌<◌, eqb}
-use Rattle.std.proofs.Math.Path.{refl}
-use Rattle.std.proofs.Common.{◌∙◌, arith, ltb-true}
+use Rattle.std.specs.Prelude.{◌≡◌, Bool, true, ◌&&◌, ◌||◌, ℕ, ◌≤◌, ◌<◌, eqb, Result, Ok, Err}
+use Rattle.std.proofs.Math.Path.{refl, ap}
+use Rattle.std.proofs.Common.{sym, ◌∙◌, arith, ltb-true}
 use Rattle.std.proofs.Math.Bool.{not}
 use Rattle.std.proofs.Math.Nat.{le_refl}
 use Rattle.std.proofs.Math.Dec.{ltb}
@@ -14,13 +14,50 @@ use Rattle.slots.specs.Slots.{fit_slot, counted_slot, acknowledged_slot}
 use Rattle.slots.specs.Laws.{fit_accepted, fit_acknowledged, fit_committed, fit_adopted, fit_counted, fit_offered}
 use Rattle.decide.specs.declared.Scalars.{Scalars}
 use Rattle.decide.specs.declared.PeerBars.{PeerBars}
-use Rattle.decide.specs.declared.Decided.{Decided}
+use Rattle.decide.specs.declared.Decided as code
+use Rattle.decide.specs.declared.Weighed as weighed_code
+use Rattle.decide.specs.declared.Refusal.{Refusal}
+use Rattle.decide.specs.declared.Refusal.TheVariants.{Contradiction, Renamed}
 use Rattle.decide.specs.declared.Reply.{Reply}
-use Rattle.decide.specs.declared.Weighed.{Weighed}
 use Rattle.decide.specs.Scalars.{leads, quorum, strict, followed, with_peer_max}
 use Rattle.decide.specs.Bars.{with_fallen, has_entry, bar_of, least_majority, with_bar}
-use Rattle.decide.specs.Decide.{silent, names_other, decide_accept, awaits_accept, decide_accept_reply, awaits_prepare, goes_on, decide_vote, is_counted, decide_count, decide_promised, is_stale, decide_accepted, decide_offer}
-use Rattle.decide.specs.Weighing.{unmoved, weighed}
+use Rattle.decide.specs.Decide.{Decided, number, as_done, decided, silent, names_other, decide_accept, awaits_accept, decide_accept_reply, awaits_prepare, goes_on, decide_vote, is_counted, decide_count, decide_promised, is_stale, decide_accepted, decide_offer}
+use Rattle.decide.specs.Weighing.{Weighed, as_weighed, weighing, unmoved, weighed}
+
+-- ── the code's values: two that say one decision are one, so a promise by `as_done`, `decided`, `as_weighed` or `weighing` allows one value ──
+pub refused_some : (e : Refusal) → number e ≡ 0 → ⊥
+refused_some Contradiction z = omega (arith, z)
+refused_some Renamed z = omega (arith, z)
+
+number_unique : (x y : Refusal) → number x ≡ number y → x ≡ y
+number_unique Contradiction Contradiction e = refl
+number_unique Contradiction Renamed e = absurd (omega (arith, e))
+number_unique Renamed Contradiction e = absurd (omega (arith, e))
+number_unique Renamed Renamed e = refl
+
+pub as_done_unique : (x y : code.Decided) → as_done x ≡ as_done y → x ≡ y
+as_done_unique x y e = ap told e
+  where
+    told : Decided → code.Decided
+    told d = record { noted = d.noted; sc = d.sc; slot = d.slot; says = d.says; keys = d.keys }
+
+pub decided_unique : (sc : Scalars) (s : Slot) (x y : Result code.Decided Refusal) → decided sc s x ≡ decided sc s y → x ≡ y
+decided_unique sc s (Ok x) (Ok y) e = ap Ok (as_done_unique x y e)
+decided_unique sc s (Ok x) (Err y) e = absurd (refused_some y (sym (ap (λ (d : Decided). d.answer) e)))
+decided_unique sc s (Err x) (Ok y) e = absurd (refused_some x (ap (λ (d : Decided). d.answer) e))
+decided_unique sc s (Err x) (Err y) e = ap Err (number_unique x y (ap (λ (d : Decided). d.answer) e))
+
+as_weighed_unique : (x y : weighed_code.Weighed) → as_weighed x ≡ as_weighed y → x ≡ y
+as_weighed_unique x y e = ap told e
+  where
+    told : Weighed → weighed_code.Weighed
+    told g = record { noted = g.noted; enters = g.enters; sc = g.sc; slot = g.slot; trigger = g.trigger }
+
+pub weighing_unique : (sc : Scalars) (s t : Slot) (x y : Result weighed_code.Weighed Refusal) → weighing sc s t x ≡ weighing sc s t y → x ≡ y
+weighing_unique sc s t (Ok x) (Ok y) e = ap Ok (as_weighed_unique x y e)
+weighing_unique sc s t (Ok x) (Err y) e = absurd (refused_some y (sym (ap (λ (g : Weighed). g.answer) e)))
+weighing_unique sc s t (Err x) (Ok y) e = absurd (refused_some x (ap (λ (g : Weighed). g.answer) e))
+weighing_unique sc s t (Err x) (Err y) e = ap Err (number_unique x y (ap (λ (g : Weighed). g.answer) e))
 
 -- what no decision changes of the scalars; and the largest ballot seen never falls
 pub record Steady (a b : Scalars) : Type 0 where
@@ -77,35 +114,35 @@ pub data Settles (sc : Scalars) (s : Slot) (d : Decided) : Type 0 where
   refused : (n : ℕ) → (n ≡ 0 → ⊥) → d ≡ silent n sc s → Settles sc s d
 
 module _ (sc : Scalars) (s : Slot) where
-  abbrev Ok : Decided → Type 0
-  Ok d = Settles sc s d
+  abbrev Good : Decided → Type 0
+  Good d = Settles sc s d
 
   pub Settles-accept : (peer slot ballot : ℕ) (b : Batch) → Settles sc s (decide_accept sc s peer slot ballot b)
   unfolding decide_accept
   Settles-accept peer slot ballot b =
-      pick_both Ok (names_other sc s b) (refused 15 (λ z. omega arith) refl)
-      (pick_both Ok (ltb ballot s.ballot) (refused 6 (λ z. omega arith) refl) (done refl (Steady-followed sc peer ballot)))
+      pick_both Good (names_other sc s b) (refused 15 (λ z. omega arith) refl)
+      (pick_both Good (ltb ballot s.ballot) (refused 6 (λ z. omega arith) refl) (done refl (Steady-followed sc peer ballot)))
 
   pub Settles-reply : (peer slot ballot : ℕ) → Settles sc s (decide_accept_reply sc s peer slot ballot)
   unfolding decide_accept_reply
   Settles-reply peer slot ballot =
-      pick_both Ok (not (awaits_accept sc s ballot)) (done refl (Steady-self sc))
-      (pick_both Ok (not (eqb s.ballot ballot) || (ltb sc.bal_max_seen ballot || not s.leader.present)) (refused 6 (λ z. omega arith) refl)
-      (pick_both Ok (has s.leader.accept_acks peer) (done refl (Steady-self sc))
-      (pick_both Ok (ltb (count_in (acknowledged_slot peer s).leader.accept_acks) (quorum sc)) (done refl (Steady-self sc)) (done refl (Steady-self sc)))))
+      pick_both Good (not (awaits_accept sc s ballot)) (done refl (Steady-self sc))
+      (pick_both Good (not (eqb s.ballot ballot) || (ltb sc.bal_max_seen ballot || not s.leader.present)) (refused 6 (λ z. omega arith) refl)
+      (pick_both Good (has s.leader.accept_acks peer) (done refl (Steady-self sc))
+      (pick_both Good (ltb (count_in (acknowledged_slot peer s).leader.accept_acks) (quorum sc)) (done refl (Steady-self sc)) (done refl (Steady-self sc)))))
 
   pub Settles-vote : (ballot : ℕ) (voted : Bool) (v : Vote) → Settles sc s (decide_vote sc s ballot voted v)
   unfolding decide_vote
   Settles-vote ballot voted v =
-      pick_both Ok (not (awaits_prepare s ballot)) (done refl (Steady-self sc))
-      (pick_both Ok (not (eqb s.ballot ballot) || (ltb sc.bal_max_seen ballot || (voted && not s.leader.present))) (refused 6 (λ z. omega arith) refl)
-      (pick_both Ok (voted && ltb s.leader.prepare_max_bal v.ballot) (done refl (Steady-self sc)) (done refl (Steady-self sc))))
+      pick_both Good (not (awaits_prepare s ballot)) (done refl (Steady-self sc))
+      (pick_both Good (not (eqb s.ballot ballot) || (ltb sc.bal_max_seen ballot || (voted && not s.leader.present))) (refused 6 (λ z. omega arith) refl)
+      (pick_both Good (voted && ltb s.leader.prepare_max_bal v.ballot) (done refl (Steady-self sc)) (done refl (Steady-self sc))))
 
   pub Settles-count : (peer ballot : ℕ) → Settles sc s (decide_count sc s peer ballot)
   unfolding decide_count
   Settles-count peer ballot =
-      pick_both Ok (not (is_counted sc (counted_slot peer s))) (done refl (Steady-self sc))
-      (pick_both Ok (ltb ballot sc.bal_prepared) (refused 6 (λ z. omega arith) refl)
+      pick_both Good (not (is_counted sc (counted_slot peer s))) (done refl (Steady-self sc))
+      (pick_both Good (ltb ballot sc.bal_prepared) (refused 6 (λ z. omega arith) refl)
       (done refl
       (record {
         id = refl;
@@ -123,15 +160,15 @@ module _ (sc : Scalars) (s : Slot) where
 
   pub Settles-promised : (slot : ℕ) → Settles sc s (decide_promised sc s slot)
   unfolding decide_promised
-  Settles-promised slot = pick_both Ok (not s.replica.present) (done refl (Steady-self sc)) (done refl (Steady-self sc))
+  Settles-promised slot = pick_both Good (not s.replica.present) (done refl (Steady-self sc)) (done refl (Steady-self sc))
 
   pub Settles-accepted : (slot ballot : ℕ) → Settles sc s (decide_accepted sc s slot ballot)
   unfolding decide_accepted
   Settles-accepted slot ballot =
-      pick_both Ok (is_stale sc s ballot true) (done refl (Steady-self sc))
-      (pick_both Ok (leads sc)
-      (pick_both Ok (eqb s.ballot sc.bal_prepared) (Settles-reply sc.id slot s.ballot) (done refl (Steady-self sc)))
-      (pick_both Ok (not s.replica.present) (done refl (Steady-self sc)) (done refl (Steady-self sc))))
+      pick_both Good (is_stale sc s ballot true) (done refl (Steady-self sc))
+      (pick_both Good (leads sc)
+      (pick_both Good (eqb s.ballot sc.bal_prepared) (Settles-reply sc.id slot s.ballot) (done refl (Steady-self sc)))
+      (pick_both Good (not s.replica.present) (done refl (Steady-self sc)) (done refl (Steady-self sc))))
 
   -- an offer is never refused
   pub Settles-offer : (slot : ℕ) (b : Batch) → Settles sc s (decide_offer sc slot b)

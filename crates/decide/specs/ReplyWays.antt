@@ -7,7 +7,7 @@ use Rattle.base.specs.Pick.{pick, and_both, decide}
 use Rattle.slots.specs.declared.Vote.{Vote}
 use Rattle.slots.specs.declared.Slot.{Slot}
 use Rattle.decide.specs.declared.Scalars.{Scalars}
-use Rattle.decide.specs.declared.Decided.{Decided}
+use Rattle.decide.specs.Decide.{Decided}
 use Rattle.decide.specs.declared.Reply.{Reply}
 use Rattle.decide.specs.Decide.{goes_on, decide_vote, is_counted, decide_count, sent_vote}
 use Rattle.decide.specs.PrepareReply.{in_log, own_reply}
@@ -15,7 +15,7 @@ use Rattle.decide.specs.Weighing.{unmoved, weighed_count, weighed_vote, weighed}
 
 -- ── whether it lies in the log ──
 -- a place below the length is a slot below the log end
-place_below : (start slot len : ℕ) → start ≤ slot → ltb (slot - start) len ≡ ltb slot (start + len)
+pub place_below : (start slot len : ℕ) → start ≤ slot → ltb (slot - start) len ≡ ltb slot (start + len)
 place_below start slot len h =
     ⊎_elim
     (λ (e : ltb slot (start + len) ≡ true). lt-ltb (slot - start) len (omega (arith, ltb-true slot (start + len) e)) ∙ sym e)

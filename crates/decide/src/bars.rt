@@ -12,7 +12,7 @@ pub fn unknown_bars(own: bool) -> PeerBars
     ensures { result ≡ unknown_bars own }
 {
     PeerBars {
-        own: own,
+        own,
         bars: [UNKNOWN_BAR; 9],
     }
 }
@@ -25,39 +25,28 @@ impl PeerBars {
         if 8 < m {
             return 0;
         }
-        let at = m as usize;
-        self.bars[at]
+        self.bars[m as usize]
     }
 
     // Whether the table has an entry for m: each other member, and self once it has one.
     pub(crate) fn has_entry(self, sc: Scalars, m: u64) -> bool
         ensures { result ≡ has_entry sc self m }
     {
-        if sc.group <= m {
-            return false;
-        }
-        if m != sc.id {
-            return true;
-        }
-        self.own
+        m < sc.group && (m != sc.id || self.own)
     }
 
     // Whether self has an entry, once m has one.
     fn owns(self, sc: Scalars, m: u64) -> bool
         ensures { result ≡ (self.own || eqb m sc.id) }
     {
-        if self.own {
-            return true;
-        }
-        m == sc.id
+        self.own || m == sc.id
     }
 
     // The table with a member's bar.
     pub fn with_bar(mut self, sc: Scalars, m: u64, bar: u64) -> PeerBars
         ensures { result ≡ with_bar sc self m bar }
     {
-        let own = self.owns(sc, m);
-        self.own = own;
+        self.own = self.owns(sc, m);
         if 8 < m {
             return self;
         }
@@ -70,13 +59,7 @@ impl PeerBars {
     fn one_not_above(self, sc: Scalars, bar: u64, m: u64) -> u64
         ensures { result ≡ one (entry_not_above sc self bar m) }
     {
-        if !self.has_entry(sc, m) {
-            return 0;
-        }
-        if bar < self.bar_of(m) {
-            return 0;
-        }
-        1
+        u64::from(self.has_entry(sc, m) && self.bar_of(m) <= bar)
     }
 
     // How many entries are not above a bar.
@@ -84,6 +67,7 @@ impl PeerBars {
         ensures { result ≡ not_above sc self bar }
     {
         let mut n = 0;
+        // Kept: the new form is no plainer, here and in least_majority: m is a member, whose number has_entry tests, and not only a place
         for m in 0..9 {
             n += self.one_not_above(sc, bar, m);
         }

@@ -5,6 +5,18 @@ ghost use Rattle.decide.specs.Scalars.{followed, steps_down, with_prepared, with
 
 use crate::Scalars;
 
+// A bit of a replica's options: an urgent commit notice.
+pub const URGENT: u64 = 1;
+
+// A bit of a replica's options: step-up disallowed.
+pub const DISALLOWED: u64 = 2;
+
+// A bit of a replica's options: the strict kind.
+pub const STRICT: u64 = 4;
+
+// 2^32: the last slot that a window may start at.
+pub const LAST_START: u64 = 4294967296;
+
 // No leader is known.
 pub const NOBODY: u64 = 255;
 
@@ -15,26 +27,14 @@ pub const UNKNOWN_BAR: u64 = 18446744073709551615;
 pub fn may_be(id: u64, group: u64, start: u64, options: u64) -> bool
     ensures { result ≡ may_be id group start options }
 {
-    if !members::is_group_size(group) {
-        return false;
-    }
-    if group <= id {
-        return false;
-    }
-    if 4294967296 < start {
-        return false;
-    }
-    options <= 7
+    members::is_group_size(group) && id < group && start <= LAST_START && options <= 7
 }
 
 // Whether the leader is nobody or a member.
 fn known_leader(leader: u64, group: u64) -> bool
     ensures { result ≡ (eqb leader 255 || ltb leader group) }
 {
-    if leader == NOBODY {
-        return true;
-    }
-    leader < group
+    leader == NOBODY || leader < group
 }
 
 impl Scalars {
@@ -55,10 +55,7 @@ impl Scalars {
     pub fn is_peer(self, m: u64) -> bool
         ensures { result ≡ is_peer self m }
     {
-        if self.group <= m {
-            return false;
-        }
-        m != self.id
+        m < self.group && m != self.id
     }
 
     pub fn quorum(self) -> u64
@@ -70,20 +67,20 @@ impl Scalars {
     pub fn urgent(self) -> bool
         ensures { result ≡ urgent self }
     {
-        self.options % 2 == 1
+        self.options / URGENT % 2 == 1
     }
 
     pub fn disallowed(self) -> bool
         ensures { result ≡ disallowed self }
     {
-        self.options / 2 % 2 == 1
+        self.options / DISALLOWED % 2 == 1
     }
 
     // Whether the replica is of the strict kind.
     pub fn strict(self) -> bool
         ensures { result ≡ strict self }
     {
-        self.options / 4 % 2 == 1
+        self.options / STRICT % 2 == 1
     }
 
     // Whether the numbers are fit for a log of so many slots.
@@ -96,7 +93,7 @@ impl Scalars {
         if self.group <= self.id {
             return false;
         }
-        if 4294967296 < self.start {
+        if LAST_START < self.start {
             return false;
         }
         if 64 < len {
@@ -125,32 +122,18 @@ impl Scalars {
     pub fn ignores_timeout(self, source: u64) -> bool
         ensures { result ≡ ignores_timeout self source }
     {
-        if self.disallowed() {
-            return true;
-        }
-        if self.leader == NOBODY {
-            return false;
-        }
-        self.leader != source
+        self.leader != NOBODY && self.leader != source || self.disallowed()
     }
 
     // Whether a leader that notifies urgently has committed its whole log, at the ballot that it prepared.
     pub fn notifies(self, bar: u64, end: u64) -> bool
         ensures { result ≡ notifies self bar end }
     {
-        if bar != end {
-            return false;
-        }
-        if self.leader != self.id {
-            return false;
-        }
-        if self.bal_prepared == 0 {
-            return false;
-        }
-        if self.bal_prepared != self.bal_max_seen {
-            return false;
-        }
-        self.urgent()
+        bar == end
+            && self.leader == self.id
+            && 0 < self.bal_prepared
+            && self.bal_prepared == self.bal_max_seen
+            && self.urgent()
     }
 
     // A larger ballot is followed, and who sent it.
@@ -168,10 +151,7 @@ impl Scalars {
     pub fn steps_down(self, ballot: u64) -> bool
         ensures { result ≡ steps_down self ballot }
     {
-        if ballot <= self.bal_max_seen {
-            return false;
-        }
-        self.leader == self.id
+        self.bal_max_seen < ballot && self.leader == self.id
     }
 
     pub(crate) fn with_prepared(mut self, ballot: u64) -> Scalars

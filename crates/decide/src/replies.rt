@@ -2,11 +2,11 @@
 ghost use Rattle.std.specs.Prelude.{◌≡◌};
 ghost use Rattle.base.specs.Pick.{pick};
 ghost use Rattle.decide.specs.Scalars.{steps_down};
-ghost use Rattle.decide.specs.Decide.{silent, proposal, names_other, decide_accept, awaits_accept, decide_accept_reply, awaits_prepare, goes_on, decide_vote};
+ghost use Rattle.decide.specs.Decide.{as_done, decided, silent, proposal, names_other, decide_accept, awaits_accept, decide_accept_reply, awaits_prepare, goes_on, decide_vote};
 ghost use Rattle.decide.specs.Decide.{is_counted, decide_count, sent_vote, decide_promised, is_stale, decide_accepted, may_offer, decide_offer};
 ghost use Rattle.decide.specs.Ways.{contradicted};
 
-use crate::{Decided, Scalars};
+use crate::{Decided, Refusal, Scalars};
 use actions::{Accepted, Action, Mark, Promised, Proposal, Says};
 use batch::Batch;
 use slots::{ACCEPTING, COMMITTED, PREPARING, Slot, Vote};
@@ -16,8 +16,8 @@ pub(crate) fn proposal(slot: u64, ballot: u64, b: Batch) -> Proposal
     ensures { result ≡ proposal slot ballot b }
 {
     Proposal {
-        slot: slot,
-        ballot: ballot,
+        slot,
+        ballot,
         batch: b.id,
         count: b.count,
     }
@@ -30,27 +30,22 @@ pub(crate) fn sent_vote(s: Slot) -> Vote
     if s.vote.ballot == 0 {
         return slots::no_vote();
     }
-    let vote = s.vote;
-    vote
+    s.vote
 }
 
 // Whether a PrepareReply is neither a duplicate nor outdated.
 pub(crate) fn awaits_prepare(s: Slot, ballot: u64) -> bool
     ensures { result ≡ awaits_prepare s ballot }
 {
-    if s.status != PREPARING {
-        return false;
-    }
-    s.ballot <= ballot
+    s.status == PREPARING && s.ballot <= ballot
 }
 
 impl Scalars {
-    // Nothing is said: ignored, refused, or only noted.
-    fn silent(self, answer: u64, s: Slot) -> Decided
-        ensures { result ≡ silent answer self s }
+    // Nothing is said: ignored, or only noted.
+    fn silent(self, s: Slot) -> Decided
+        ensures { as_done result ≡ silent 0 self s }
     {
         Decided {
-            answer: answer,
             noted: false,
             sc: self,
             slot: s,
@@ -70,19 +65,11 @@ impl Scalars {
     }
 
     // Whether an assertion on a reply fails: the slot's ballot, the largest seen, and where one is needed the leader's book.
+    #[tactic(auto, unfolding(crate::specs::Ways::contradicted))]
     fn contradicts(self, s: Slot, ballot: u64, booked: bool) -> bool
         ensures { result ≡ contradicted self s ballot booked }
     {
-        if s.ballot != ballot {
-            return true;
-        }
-        if self.bal_max_seen < ballot {
-            return true;
-        }
-        if !booked {
-            return false;
-        }
-        !s.leader.present
+        s.ballot != ballot || self.bal_max_seen < ballot || booked && !s.leader.present
     }
 
     // Whether an Accept names another batch for a strict replica's committed slot.
@@ -95,113 +82,119 @@ impl Scalars {
         if s.status < COMMITTED {
             return false;
         }
-        let held = s.batch;
-        !batch::same(held, b)
+        s.batch != b
     }
 
     // An Accept whose ballot is not smaller than what was seen.
-    pub fn decide_accept(self, s: Slot, peer: u64, slot: u64, ballot: u64, b: Batch) -> Decided
-        ensures { result ≡ decide_accept self s peer slot ballot b }
+    pub fn decide_accept(
+        self,
+        s: Slot,
+        peer: u64,
+        slot: u64,
+        ballot: u64,
+        b: Batch,
+    ) -> Result<Decided, Refusal>
+        ensures { decided self s result ≡ decide_accept self s peer slot ballot b }
     {
         if self.names_other(s, b) {
-            return self.silent(15, s);
+            return Err(Refusal::Renamed);
         }
         if ballot < s.ballot {
-            return self.silent(6, s);
+            return Err(Refusal::Contradiction);
         }
         let says = self.reported(ballot, Action::AcceptData(proposal(slot, ballot, b)));
         let after = self.followed(peer, ballot);
         let taken = s.accepted(self.strict(), peer, ballot, b);
         let keys = b.keys;
-        Decided {
-            answer: 0,
+        Ok(Decided {
             noted: true,
             sc: after,
             slot: taken,
-            says: says,
-            keys: keys,
-        }
+            says,
+            keys,
+        })
     }
 
     // Whether an AcceptReply is neither a duplicate nor outdated.
     fn awaits_accept(self, s: Slot, ballot: u64) -> bool
         ensures { result ≡ awaits_accept self s ballot }
     {
-        if self.leader != self.id {
-            return false;
-        }
-        if s.status != ACCEPTING {
-            return false;
-        }
-        s.ballot <= ballot
+        self.leader == self.id && s.status == ACCEPTING && s.ballot <= ballot
     }
 
     // An AcceptReply at a ballot that is bal_prepared.
-    pub fn decide_accept_reply(self, s: Slot, peer: u64, slot: u64, ballot: u64) -> Decided
-        ensures { result ≡ decide_accept_reply self s peer slot ballot }
+    pub fn decide_accept_reply(
+        self,
+        s: Slot,
+        peer: u64,
+        slot: u64,
+        ballot: u64,
+    ) -> Result<Decided, Refusal>
+        ensures { decided self s result ≡ decide_accept_reply self s peer slot ballot }
     {
         if !self.awaits_accept(s, ballot) {
-            return self.silent(0, s);
+            return Ok(self.silent(s));
         }
         if self.contradicts(s, ballot, true) {
-            return self.silent(6, s);
+            return Err(Refusal::Contradiction);
         }
         if members::contains(s.leader.accept_acks, peer) {
-            return self.silent(0, s);
+            return Ok(self.silent(s));
         }
         let known = s.acknowledged(peer);
         if members::count(known.leader.accept_acks) < self.quorum() {
-            return self.silent(0, known);
+            return Ok(self.silent(known));
         }
         let done = known.committed();
-        Decided {
-            answer: 0,
+        Ok(Decided {
             noted: false,
             sc: self,
             slot: done,
             says: Says::One(Action::CommitSlot(Mark {
-                slot: slot,
+                slot,
                 ballot: s.ballot,
             })),
             keys: [0; 8],
-        }
+        })
     }
 
     // The vote of a PrepareReply replaces only on a strictly larger ballot.
-    pub(crate) fn decide_vote(self, s: Slot, ballot: u64, voted: bool, v: Vote) -> Decided
-        ensures { result ≡ decide_vote self s ballot voted v }
+    pub(crate) fn decide_vote(
+        self,
+        s: Slot,
+        ballot: u64,
+        voted: bool,
+        v: Vote,
+    ) -> Result<Decided, Refusal>
+        ensures { decided self s result ≡ decide_vote self s ballot voted v }
     {
         if !awaits_prepare(s, ballot) {
-            return self.silent(0, s);
+            return Ok(self.silent(s));
         }
         if self.contradicts(s, ballot, voted) {
-            return self.silent(6, s);
+            return Err(Refusal::Contradiction);
         }
         if !voted {
-            return self.silent(0, s);
+            return Ok(self.silent(s));
         }
         if v.ballot <= s.leader.prepare_max_bal {
-            return self.silent(0, s);
+            return Ok(self.silent(s));
         }
         let taken = s.adopted(v);
-        Decided {
-            answer: 0,
+        Ok(Decided {
             noted: true,
             sc: self,
             slot: taken,
             says: Says::Nothing,
             keys: [0; 8],
-        }
+        })
     }
 
     // Whether a PrepareReply is awaited, or its member may count all the same.
     pub(crate) fn goes_on(self, s: Slot, ballot: u64) -> bool
         ensures { result ≡ goes_on self s ballot }
     {
-        if self.strict() {
-            return true;
-        }
-        awaits_prepare(s, ballot)
+        self.strict() || awaits_prepare(s, ballot)
     }
 
     // Whether a quorum of members is counted at the trigger slot.
@@ -212,37 +205,36 @@ impl Scalars {
     }
 
     // A member counts at the trigger slot; at the quorum the ballot is prepared.
-    pub(crate) fn decide_count(self, t: Slot, peer: u64, ballot: u64) -> Decided
-        ensures { result ≡ decide_count self t peer ballot }
+    pub(crate) fn decide_count(self, t: Slot, peer: u64, ballot: u64) -> Result<Decided, Refusal>
+        ensures { decided self t result ≡ decide_count self t peer ballot }
     {
         let more = t.counted(peer);
         if !self.is_counted(more) {
-            return self.silent(0, more);
+            return Ok(self.silent(more));
         }
         if ballot < self.bal_prepared {
-            return self.silent(6, t);
+            return Err(Refusal::Contradiction);
         }
-        self.with_prepared(ballot).silent(0, more)
+        Ok(self.with_prepared(ballot).silent(more))
     }
 
     // A follower's PrepareBal is logged: a PrepareReply to the source, at the slot's ballot.
     pub fn decide_promised(self, s: Slot, slot: u64) -> Decided
-        ensures { result ≡ decide_promised self s slot }
+        ensures { as_done result ≡ decide_promised self s slot }
     {
         if !s.replica.present {
-            return self.silent(0, s);
+            return self.silent(s);
         }
         let vote = sent_vote(s);
         let batch = vote.batch;
         let keys = batch.keys;
         Decided {
-            answer: 0,
             noted: false,
             sc: self,
             slot: s,
             says: Says::One(Action::PrepareReply(Promised {
                 member: s.replica.source,
-                slot: slot,
+                slot,
                 trigger: s.replica.trigger,
                 endprep: s.replica.endprep,
                 ballot: s.ballot,
@@ -251,7 +243,7 @@ impl Scalars {
                 count: batch.count,
                 bar: self.accept_bar,
             })),
-            keys: keys,
+            keys,
         }
     }
 
@@ -259,75 +251,58 @@ impl Scalars {
     pub fn is_stale(self, s: Slot, ballot: u64, of_accept: bool) -> bool
         ensures { result ≡ is_stale self s ballot of_accept }
     {
-        if !self.strict() {
-            return false;
-        }
-        if s.ballot != ballot {
-            return true;
-        }
-        if !of_accept {
-            return false;
-        }
-        s.vote.ballot != ballot
+        self.strict() && (s.ballot != ballot || of_accept && s.vote.ballot != ballot)
     }
 
     // An AcceptData is logged: a leader's own reply, or an AcceptReply to the source.
-    pub fn decide_accepted(self, s: Slot, slot: u64, ballot: u64) -> Decided
-        ensures { result ≡ decide_accepted self s slot ballot }
+    pub fn decide_accepted(self, s: Slot, slot: u64, ballot: u64) -> Result<Decided, Refusal>
+        ensures { decided self s result ≡ decide_accepted self s slot ballot }
     {
         if self.is_stale(s, ballot, true) {
-            return self.silent(0, s);
+            return Ok(self.silent(s));
         }
         if self.leader == self.id {
             if s.ballot == self.bal_prepared {
                 return self.decide_accept_reply(s, self.id, slot, s.ballot);
             }
-            return self.silent(0, s);
+            return Ok(self.silent(s));
         }
         if !s.replica.present {
-            return self.silent(0, s);
+            return Ok(self.silent(s));
         }
-        Decided {
-            answer: 0,
+        Ok(Decided {
             noted: false,
             sc: self,
             slot: s,
             says: Says::One(Action::AcceptReply(Accepted {
                 member: s.replica.source,
-                slot: slot,
+                slot,
                 ballot: s.ballot,
             })),
             keys: [0; 8],
-        }
+        })
     }
 
     // Whether a batch may be offered (9).
     pub fn may_offer(self) -> bool
         ensures { result ≡ may_offer self }
     {
-        if self.leader != self.id {
-            return false;
-        }
-        if self.bal_prepared == 0 {
-            return false;
-        }
-        self.bal_prepared == self.bal_prep_sent
+        self.leader == self.id && self.bal_prepared != 0 && self.bal_prepared == self.bal_prep_sent
     }
 
     // An offer: a slot in Accepting at bal_prepared, an AcceptData and an Accept.
     pub fn decide_offer(self, slot: u64, b: Batch) -> Decided
-        ensures { result ≡ decide_offer self slot b }
+        ensures { as_done result ≡ decide_offer self slot b }
     {
         let taken = slots::offered_slot(self.strict(), self.bal_prepared, b);
         let said = proposal(slot, self.bal_prepared, b);
         let keys = b.keys;
         Decided {
-            answer: 0,
             noted: true,
             sc: self,
             slot: taken,
             says: Says::Two(Action::AcceptData(said), Action::Accept(said)),
-            keys: keys,
+            keys,
         }
     }
 }

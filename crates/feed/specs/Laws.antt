@@ -1,5 +1,5 @@
 -- The laws of a read behind bytes that stay, and of moving bytes to the front.
-use Rattle.std.specs.Prelude.{◌≡◌, refl, true, false, List, ℕ, suc, ◌+◌, ◌-◌, ◌%◌, ◌≤◌, ◌<◌, eqb, length, get_or, set, take, drop}
+use Rattle.std.specs.Prelude.{◌≡◌, refl, true, false, List, ℕ, suc, ◌+◌, ◌-◌, ◌%◌, ◌≤◌, ◌<◌, eqb, length, get_or, set, take, drop, Result, Ok, Err}
 use Rattle.std.proofs.Common.{sym, ◌∙◌, ⊎_elim, arith, add-one, zero-add, add_comm, le_refl, length-drop, get_or-drop}
 use Rattle.std.proofs.Math.Path.{ap}
 use Rattle.std.proofs.Math.Seq.{paste, paste-suc}
@@ -7,7 +7,9 @@ use Rattle.std.proofs.lemmas.List.Edits.{drop-paste}
 use borrow.Author.Tests.{le-leb, lt-leb, eq-eqb, ne_eqb}
 use borrow.Rule.Slice.PartMut.{put_mid, take_put}
 use Rattle.base.specs.Pick.{coincide, clash, same?}
-use Rattle.feed.specs.Feed.{ReadBehind, fronted, Fronted}
+use Rattle.feed.specs.declared.Input as code
+use Rattle.feed.specs.declared.ReadFailed.{ReadFailed}
+use Rattle.feed.specs.Feed.{Input, told, ReadBehind, fronted, Fronted}
 
 module _ (bytes : List ℕ) (have : ℕ) where
   pub read_none : length bytes < have → ReadBehind bytes have (record { have = 0; ended = true; failed = false }) bytes
@@ -67,6 +69,18 @@ module _ (bytes : List ℕ) (n : ℕ) where
   pub fronts_all : (r i : ℕ) (after : List ℕ) → n ≤ length bytes → r ≡ n % 256 → i ≡ r → after ≡ paste bytes 0 (drop (n - n % 256) bytes) i → Fronted bytes n r after
   unfolding fronted
   fronts_all r i after h e f g = let k = le-leb n (length bytes) h in record { count = rw k e; moved = rw k (g ∙ ap (paste bytes 0 (drop (n - n % 256) bytes)) (f ∙ e)) }
+
+-- where there are n bytes, so many stand at the front, and they are these
+pub fronted_rest : (bytes after : List ℕ) (n r : ℕ) → n ≤ length bytes → Fronted bytes n r after → (r ≡ n % 256) × (after ≡ paste bytes 0 (drop (n - n % 256) bytes) (n % 256))
+unfolding fronted
+fronted_rest bytes after n r h f = let k = le-leb n (length bytes) h in (rw k at f.count, rw k at f.moved)
+
+-- two answers of a read that say the same are the same
+pub told_unique : (r s : Result code.Input ReadFailed) → told r ≡ told s → r ≡ s
+told_unique (Ok i) (Ok j) e = ap (λ (x : Input). Ok (record { have = x.have; ended = x.ended })) e
+told_unique (Ok i) (Err f) e = absurd (clash (ap (λ (x : Input). x.failed) e) refl)
+told_unique (Err f) (Ok j) e = absurd (clash (sym (ap (λ (x : Input). x.failed) e)) refl)
+told_unique (Err f) (Err g) e = ap (λ (x : Input). Err (record { have = x.have })) e
 
 -- any two outcomes that the promise allows coincide
 pub Fronted-unique : {bytes after after' : List ℕ} {n r r' : ℕ} → Fronted bytes n r after → Fronted bytes n r' after' → (r ≡ r') × (after ≡ after')

@@ -20,7 +20,7 @@ struct Told {
 impl Told {
     fn nothing(alloc: Global) -> Told {
         Told {
-            alloc: alloc,
+            alloc,
             text: RefCell::new(String::new(alloc)),
         }
     }
@@ -119,10 +119,10 @@ fn reads(rt: HostRuntime) {
         (2, 2, true, b"cera"),
         (5, 0, true, b"cera"),
     ] {
-        let input = read_more(&mut reader, &told, &mut bytes, have);
-        assert_eq!(rt; input.have, now);
-        assert_eq!(rt; input.ended, ended);
-        assert!(rt; !input.failed);
+        assert_eq!(rt;
+            read_more(&mut reader, &told, &mut bytes, have),
+            Ok(Input { have: now, ended })
+        );
         assert_eq!(rt; bytes.as_slice(), left.as_slice());
     }
     assert!(rt; told.is(""));
@@ -141,9 +141,13 @@ fn a_read_fails(rt: HostRuntime) {
         (4, 4, true, false, UNREAD),
     ] {
         let input = read_more(&mut reader, &told, &mut bytes, have);
-        assert_eq!(rt; input.have, now);
-        assert_eq!(rt; input.ended, ended);
-        assert_eq!(rt; input.failed, failed);
+        assert_eq!(rt; input.is_err(), failed);
+        let (left, end) = match input {
+            Ok(input) => (input.have, input.ended),
+            Err(failed) => (failed.have, true),
+        };
+        assert_eq!(rt; left, now);
+        assert_eq!(rt; end, ended);
         assert!(rt; told.is(words));
     }
     assert_eq!(rt; bytes.as_slice(), b".abc....".as_slice());
@@ -166,10 +170,10 @@ fn keeps(rt: HostRuntime) {
 fn writes(rt: HostRuntime) {
     let told = Told::nothing(rt.alloc());
     let mut writer = Vec::new(rt.alloc());
-    assert!(rt; write_text(&mut writer, &told, b"text", 3));
-    assert!(rt; write_text(&mut writer, &told, b"text", 0));
-    assert!(rt; !write_text(&mut writer, &told, b"text", 5));
-    assert!(rt; write_text(&mut writer, &told, b"text", 4));
+    assert!(rt; write_text(&mut writer, &told, b"text", 3).is_ok());
+    assert!(rt; write_text(&mut writer, &told, b"text", 0).is_ok());
+    assert!(rt; write_text(&mut writer, &told, b"text", 5).is_err());
+    assert!(rt; write_text(&mut writer, &told, b"text", 4).is_ok());
     assert_eq!(rt; writer.as_slice(), b"textext".as_slice());
     assert!(rt; told.is(""));
 }
@@ -184,12 +188,92 @@ fn a_write_fails(rt: HostRuntime) {
     ] {
         let told = Told::nothing(rt.alloc());
         let mut writer = Stopped {
-            kind: kind,
+            kind,
             writes: 0,
             bytes: Vec::new(rt.alloc()),
         };
-        assert_eq!(rt; write_text(&mut writer, &told, b"text", 4), done);
+        assert_eq!(rt; write_text(&mut writer, &told, b"text", 4).is_ok(), done);
         assert!(rt; told.is(words));
         assert_eq!(rt; writer.bytes.as_slice(), bytes.as_bytes());
     }
+}
+
+// Keeps what it takes, with a stroke behind each block, and takes no block with an x in it.
+#[derive(Drop)]
+struct Kept {
+    blocks: Vec<u8>,
+}
+
+impl Taker for Kept {
+    fn take_block(&mut self, block: &[u8]) -> Result<(), WriteFailed> {
+        if block.contains(&b'x') {
+            return Err(WriteFailed);
+        }
+        let (Ok(_), Ok(_)) = (self.blocks.write(block), self.blocks.write(b"|")) else {
+            return Err(WriteFailed);
+        };
+        Ok(())
+    }
+}
+
+// Without room for a record all comes at once, or what there is room for; with an x nothing is taken.
+#[test]
+fn blocks(rt: HostRuntime) {
+    let told = Told::nothing(rt.alloc());
+    for (text, outcome, taken) in [
+        ("", Ok(()), ""),
+        ("abc", Ok(()), "|abc|"),
+        ("abcdef", Ok(()), "|abcd|"),
+        ("axc", Err(Stop::Unwritten), "|"),
+    ] {
+        let mut reader = text.as_bytes();
+        let mut kept = Kept {
+            blocks: Vec::new(rt.alloc()),
+        };
+        let mut bytes = [0u8; 4];
+        assert_eq!(rt;
+            each_block(&mut reader, &told, &mut bytes, &mut kept),
+            outcome
+        );
+        assert_eq!(rt; kept.blocks.as_slice(), taken.as_bytes());
+    }
+    assert!(rt; told.is(""));
+}
+
+// Two records and two bytes, the first read of 300 bytes.
+#[test]
+fn records(rt: HostRuntime) {
+    let told = Told::nothing(rt.alloc());
+    let text = [b'r'; 514];
+    let mut reader = text.as_slice();
+    let mut kept = Kept {
+        blocks: Vec::new(rt.alloc()),
+    };
+    let mut bytes = [0u8; 300];
+    assert_eq!(rt;
+        each_block(&mut reader, &told, &mut bytes, &mut kept),
+        Ok(())
+    );
+    let blocks = kept.blocks.as_slice();
+    assert_eq!(rt; blocks.len(), 517);
+    assert_eq!(rt; blocks.get(256), Some(&b'|'));
+    assert_eq!(rt; blocks.get(513), Some(&b'|'));
+    assert_eq!(rt; blocks.get(516), Some(&b'|'));
+}
+
+// A read that fails ends it, and what was not a whole record by then is not taken.
+#[test]
+fn a_block_fails(rt: HostRuntime) {
+    let told = Told::nothing(rt.alloc());
+    let mut reader = Broken { reads: 0 };
+    let mut kept = Kept {
+        blocks: Vec::new(rt.alloc()),
+    };
+    let mut bytes = [0u8; 300];
+    assert_eq!(rt;
+        each_block(&mut reader, &told, &mut bytes, &mut kept),
+        Err(Stop::Unread)
+    );
+    assert_eq!(rt; kept.blocks.as_slice(), b"|".as_slice());
+    assert!(rt; told.is(UNREAD));
 }

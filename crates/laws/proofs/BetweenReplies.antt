@@ -13,8 +13,8 @@ use Rattle.members.specs.Many.{insert_all, insert_all-append, insert_all_count}
 use Rattle.tally.specs.declared.Tally.{Tally}
 use Rattle.tally.specs.declared.Read.{Read}
 use Rattle.tally.specs.declared.Reads.{Reads}
-use Rattle.tally.specs.declared.Opened.{Opened}
-use Rattle.tally.specs.declared.Replied.{Replied}
+use Rattle.tally.specs.Open.{Opened}
+use Rattle.tally.specs.Open.{Replied}
 use Rattle.tally.specs.Open.{no_read, close_read, reply_to, stays_open}
 use Rattle.tally.specs.ReadLaws.{id_at, find_id, open_cases, close_others, close_last, close_count, put_count, put_others}
 use Rattle.tally.specs.ReadOrder.{read_after, Agreed, joined_by}

@@ -10,7 +10,7 @@ use Rattle.members.specs.Many.{insert_all}
 use Rattle.tally.specs.declared.Tally.{Tally}
 use Rattle.tally.specs.declared.Read.{Read}
 use Rattle.tally.specs.declared.Reads.{Reads}
-use Rattle.tally.specs.declared.Replied.{Replied}
+use Rattle.tally.specs.Open.{Replied}
 use Rattle.tally.specs.Open.{close_read, put_read, stays, reply_to}
 use Rattle.tally.specs.ReadLaws.{id_at, Distinct, find_id, find_only, find_nowhere, close_gone, close_put_count, close_put_each, put_count, put_length, put_here, put_distinct, put_again, put_back}
 use Rattle.tally.specs.ReadOrder.{read_after, Agreed, joined_by}

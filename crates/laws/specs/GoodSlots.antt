@@ -31,7 +31,7 @@ module _ (Z : Type 0) where
   pub good_clean : (b : Batch) → GoodBatch Z (clean b)
   unfolding make_batch
   good_clean b =
-      pick_cases (λ (m : Rattle.batch.specs.declared.Made.Made). GoodBatch Z m.batch) (is_batch b.id b.count)
+      pick_cases (λ (m : Rattle.batch.specs.Batches.Made). GoodBatch Z m.batch) (is_batch b.id b.count)
       (λ t. record { few = leb-true _ _ (and_left (leb b.count 8) _ t); eight = λ z. refl }) (λ t. good_empty)
 
 module _ (Z : Type 0) (group : ℕ) where

@@ -12,13 +12,13 @@ use Rattle.base.specs.Gather.{gather}
 use Rattle.base.specs.Over.{over, over_after, set_each}
 use Rattle.members.specs.Sets.{has, count_in}
 use Rattle.members.specs.Ballots.{owns, next_ballot}
-use Rattle.members.specs.declared.NextBallot.{NextBallot}
-use Rattle.members.specs.declared.NextBallot.TheVariants.{Ballot, Spent}
+use Rattle.std.specs.declared.option.Option.{Option}
+use Rattle.std.specs.declared.option.Option.TheVariants.{None, Some}
 use Rattle.batch.specs.declared.Batch.{Batch}
 use Rattle.batch.specs.Batches.{is_batch}
 use Rattle.batch.specs.Keys.{overfull}
 use Rattle.tally.specs.declared.Tally.{Tally}
-use Rattle.tally.specs.declared.Replied.{Replied}
+use Rattle.tally.specs.Open.{Replied}
 use Rattle.tally.specs.Open.{no_read, find_read, reply_to, stays_open}
 use Rattle.actions.specs.declared.Action.TheVariants.{AcceptData as AcceptEntry, StatusDown}
 use Rattle.actions.specs.declared.Says.TheVariants.{One as OneAct, Two}
@@ -26,7 +26,7 @@ use Rattle.slots.specs.declared.ReplicaBook.{ReplicaBook}
 use Rattle.slots.specs.declared.Slot.{Slot}
 use Rattle.slots.specs.Slots.{with_offset, preparing, committed, no_slot, put_back, prepared_slot, acknowledged_slot, logged_slot, with_state, with_batch, with_replica, with_vote, sourced}
 use Rattle.decide.specs.declared.Scalars.{Scalars}
-use Rattle.decide.specs.declared.Decided.{Decided}
+use Rattle.decide.specs.Decide.{Decided}
 use Rattle.decide.specs.declared.Reply.{Reply}
 use Rattle.decide.specs.Scalars.{leads, is_member, is_peer, urgent, disallowed, strict, quorum, ignores_timeout, followed, steps_down, fit_scalars}
 use Rattle.decide.specs.Decide.{proposal, awaits_accept, names_other, decide_accept, decide_accept_reply, decide_promised, is_stale, decide_accepted, may_offer, decide_offer}
@@ -286,9 +286,9 @@ module _ (n : ℕ) where
     timeout_agrees room source e =
         admitted room (choose (not (is_member r.sc source)) (one refl) (rw e (choose (ignores_timeout r.sc source) (one refl) (up (next_ballot r.sc.bal_max_seen r.sc.id)))))
       where
-        up : (b : NextBallot) → One n (step_up r' b) (step_up r b)
-        up Spent = one refl
-        up (Ballot b) =
+        up : (b : Option ℕ) → One n (step_up r' b) (step_up r b)
+        up None = one refl
+        up (Some b) =
             choose (ltb (number r.sc (first_open r.window)) r.sc.exec_bar) (one refl) (choose (leb 64 (first_open r.window)) (one refl) (one refl))
 
     committed_agrees : (slot : ℕ) → urgent r'.sc ≡ urgent r.sc → One n (committed_done r' slot) (committed_done r slot)

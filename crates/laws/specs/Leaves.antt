@@ -11,7 +11,7 @@ use Rattle.batch.specs.Keys.{refresh, overfull}
 use Rattle.actions.specs.Actions.{Act}
 use Rattle.slots.specs.declared.Slot.{Slot}
 use Rattle.slots.specs.Slots.{no_slot}
-use Rattle.decide.specs.declared.Decided.{Decided}
+use Rattle.decide.specs.Decide.{Decided}
 use Rattle.decide.specs.Decide.{silent}
 use Rattle.window.specs.declared.Window.{Window}
 use Rattle.window.specs.Window.{slot_at, put_slot}

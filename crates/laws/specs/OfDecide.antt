@@ -11,7 +11,7 @@ use Rattle.actions.specs.Actions.{no_keys}
 use Rattle.slots.specs.declared.Slot.{Slot}
 use Rattle.slots.specs.Slots.{accepting, counted_slot, accepted_slot, acknowledged_slot, committed_slot}
 use Rattle.decide.specs.declared.Scalars.{Scalars}
-use Rattle.decide.specs.declared.Decided.{Decided}
+use Rattle.decide.specs.Decide.{Decided}
 use Rattle.decide.specs.Scalars.{leads, quorum, strict, followed, steps_down, with_prepared}
 use Rattle.decide.specs.Decide.{silent, proposal, names_other, decide_accept, awaits_accept, decide_accept_reply, is_counted, decide_count, sent_vote, decide_promised, is_stale, decide_accepted}
 

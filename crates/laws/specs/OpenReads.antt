@@ -8,15 +8,15 @@ use Rattle.members.specs.Laws.{count_empty}
 use Rattle.tally.specs.declared.Tally.{Tally}
 use Rattle.tally.specs.declared.Read.{Read}
 use Rattle.tally.specs.declared.Reads.{Reads}
-use Rattle.tally.specs.declared.Opened.{Opened}
-use Rattle.tally.specs.declared.Replied.{Replied}
+use Rattle.tally.specs.Open.{Opened}
+use Rattle.tally.specs.Open.{Replied}
 use Rattle.tally.specs.Open.{no_read, new_read, put_read, reply_to, stays_open}
 use Rattle.tally.proofs.Laws.{reply_id, reply_open}
 use Rattle.tally.specs.ReadLaws.{Distinct, added, open_cases, open_distinct, close_distinct, close_each, put_count, put_distinct}
 use Rattle.decide.specs.declared.Reply.{Reply}
 use Rattle.decide.specs.Scalars.{is_member, quorum, may_be}
 use Rattle.replica.specs.declared.Replica.{Replica}
-use Rattle.replica.specs.declared.Made.{Made}
+use Rattle.replica.specs.Seen.{Made}
 use Rattle.replica.specs.declared.Done.{Done}
 use Rattle.replica.specs.Record.{Outcome, place, new_replica, summed}
 use Rattle.replica.specs.Fit.{ready}

@@ -7,7 +7,7 @@ use Rattle.decide.specs.Scalars.{may_be}
 use Rattle.window.specs.Window.{slot_at, first_open}
 use Rattle.window.specs.Summary.{walk}
 use Rattle.replica.specs.declared.Replica.{Replica}
-use Rattle.replica.specs.declared.Made.{Made}
+use Rattle.replica.specs.Seen.{Made}
 use Rattle.replica.specs.Record.{Outcome, new_replica, place}
 use Rattle.replica.specs.Fit.{fit, sums, usable}
 use Rattle.replica.specs.Durability.{pass_stop}

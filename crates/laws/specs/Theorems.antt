@@ -6,7 +6,7 @@ use Rattle.std.proofs.lemmas.Bool.{lt-leb}
 use Rattle.base.specs.Pick.{pick_both, decide}
 use Rattle.decide.specs.Scalars.{may_be, fit_scalars}
 use Rattle.replica.specs.declared.Replica.{Replica}
-use Rattle.replica.specs.declared.Made.{Made}
+use Rattle.replica.specs.Seen.{Made}
 use Rattle.replica.specs.Record.{Outcome, kept, zero_replica, new_replica}
 use Rattle.replica.specs.Fit.{fit, sums}
 use Rattle.replica.specs.Step.{Call, step}

@@ -11,16 +11,16 @@ use Rattle.batch.specs.declared.Batch.{Batch}
 use Rattle.batch.specs.Batches.{is_batch}
 use Rattle.batch.specs.Keys.{overfull}
 use Rattle.tally.specs.declared.Tally.{Tally}
-use Rattle.tally.specs.declared.Merged.{Merged}
+use Rattle.tally.specs.Merge.{Merged}
 use Rattle.tally.specs.declared.Read.{Read}
-use Rattle.tally.specs.declared.Opened.{Opened}
-use Rattle.tally.specs.declared.Replied.{Replied}
+use Rattle.tally.specs.Open.{Opened}
+use Rattle.tally.specs.Open.{Replied}
 use Rattle.tally.specs.Merge.{conflict_at, merge_up_to}
 use Rattle.tally.specs.Open.{new_read, no_read, find_read, is_open, open_read, close_read, put_read, with_tally, with_ack, smaller, acknowledged, reply_to}
 use Rattle.tally.proofs.Laws.{merge_cases}
 use Rattle.actions.specs.Actions.{says_acts}
 use Rattle.slots.specs.Slots.{executed_slot}
-use Rattle.decide.specs.declared.Decided.{Decided}
+use Rattle.decide.specs.Decide.{Decided}
 use Rattle.decide.specs.Scalars.{is_member, quorum}
 use Rattle.decide.specs.Decide.{may_offer, decide_offer}
 use Rattle.window.specs.declared.Window.{Window}

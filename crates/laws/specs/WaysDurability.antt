@@ -10,7 +10,7 @@ use Rattle.actions.specs.Actions.{Act, says_acts}
 use Rattle.slots.specs.declared.Slot.{Slot}
 use Rattle.slots.specs.Slots.{passed_slot, acknowledged_slot}
 use Rattle.decide.specs.declared.Scalars.{Scalars}
-use Rattle.decide.specs.declared.Decided.{Decided}
+use Rattle.decide.specs.Decide.{Decided}
 use Rattle.decide.specs.Scalars.{leads, quorum, with_bars}
 use Rattle.decide.specs.Decide.{is_stale}
 use Rattle.decide.specs.PrepareReply.{own_reply}

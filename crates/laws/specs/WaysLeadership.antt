@@ -4,8 +4,8 @@ use Rattle.std.proofs.Common.{arith, ltb-true, ltb-false, leb-false, eqb-true}
 use Rattle.std.proofs.lemmas.Bool.{not-true, not-false}
 use Rattle.base.specs.Pick.{pick_cases}
 use Rattle.base.specs.Gather.{gather}
-use Rattle.members.specs.declared.NextBallot.{NextBallot}
-use Rattle.members.specs.declared.NextBallot.TheVariants.{Ballot, Spent}
+use Rattle.std.specs.declared.option.Option.{Option}
+use Rattle.std.specs.declared.option.Option.TheVariants.{None, Some}
 use Rattle.members.specs.Ballots.{owns, next_ballot}
 use Rattle.members.specs.Laws.{Next-given, next_larger}
 use Rattle.actions.specs.declared.Action.TheVariants.{Prepare, Heartbeat, StatusUp}
@@ -55,7 +55,7 @@ pub record Leads (r : Replica) (source ballot : ℕ) : Type 0 where
   pub fits : fit r ≡ true
   pub member : source < r.sc.group
   pub heeds : ignores_timeout r.sc source ≡ false
-  pub next : next_ballot r.sc.bal_max_seen r.sc.id ≡ Ballot ballot
+  pub next : next_ballot r.sc.bal_max_seen r.sc.id ≡ Some ballot
   pub open_high : r.sc.exec_bar ≤ lead_trigger r
   pub room : first_open r.window < 64
 
@@ -63,11 +63,11 @@ pub record Leads (r : Replica) (source ballot : ℕ) : Type 0 where
 pub Leads-up : (r : Replica) (source ballot : ℕ) → Leads r source ballot → r.sc.bal_max_seen < ballot
 Leads-up r source ballot f = omega (arith, (Next-given r.sc.bal_max_seen r.sc.id ballot f.next).made, next_larger r.sc.bal_max_seen r.sc.id)
 
-step_up_ways : (P : Outcome → Type 0) (r : Replica) (b : NextBallot) → Keeps P r
-    → ((ballot : ℕ) → b ≡ Ballot ballot → r.sc.exec_bar ≤ lead_trigger r → first_open r.window < 64 → P (led r ballot)) → P (step_up r b)
+step_up_ways : (P : Outcome → Type 0) (r : Replica) (b : Option ℕ) → Keeps P r
+    → ((ballot : ℕ) → b ≡ Some ballot → r.sc.exec_bar ≤ lead_trigger r → first_open r.window < 64 → P (led r ballot)) → P (step_up r b)
 unfolding step_up lead_on
-step_up_ways P r Spent k on = k 8 refl
-step_up_ways P r (Ballot b) k on =
+step_up_ways P r None k on = k 8 refl
+step_up_ways P r (Some b) k on =
     pick_cases P (ltb (number r.sc (first_open r.window)) r.sc.exec_bar) (λ a. k 8 refl)
     (λ a. pick_cases P (leb 64 (first_open r.window)) (λ c. k 5 refl) (λ c. on b refl (ltb-false _ _ a) (leb-false _ _ c)))
 

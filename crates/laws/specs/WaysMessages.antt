@@ -14,7 +14,7 @@ use Rattle.actions.specs.Actions.{says_acts}
 use Rattle.slots.specs.declared.Slot.{Slot}
 use Rattle.slots.specs.Slots.{prepared_slot, acknowledged_slot}
 use Rattle.decide.specs.declared.Scalars.{Scalars}
-use Rattle.decide.specs.declared.Decided.{Decided}
+use Rattle.decide.specs.Decide.{Decided}
 use Rattle.decide.specs.Decide.{names_other}
 use Rattle.decide.specs.Scalars.{is_member, is_peer, strict, followed, quorum}
 use Rattle.window.specs.declared.Window.{Window}

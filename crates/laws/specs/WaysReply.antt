@@ -18,7 +18,7 @@ use Rattle.actions.specs.Actions.{Act, no_keys}
 use Rattle.slots.specs.declared.Slot.{Slot}
 use Rattle.slots.specs.Slots.{adopted_slot, counted_slot, entered_slot}
 use Rattle.decide.specs.declared.Scalars.{Scalars}
-use Rattle.decide.specs.declared.Decided.{Decided}
+use Rattle.decide.specs.Decide.{Decided}
 use Rattle.decide.specs.declared.Reply.{Reply}
 use Rattle.decide.specs.Scalars.{leads, is_peer, strict, with_prepared}
 use Rattle.decide.specs.Bars.{with_fallen}

@@ -11,8 +11,7 @@ use Rattle.members.specs.Sets.{has, insert, count, count_in, fits_group}
 use Rattle.members.specs.Counting.{count_same, count_most, count_none, count_cut, count_put, overlap}
 use Rattle.members.specs.Groups.{group_size, quorum_of}
 use Rattle.members.specs.Ballots.{owns, owner_of, ballot_above, next_ballot}
-use Rattle.members.specs.declared.Owner.TheVariants.{Member}
-use Rattle.members.specs.declared.NextBallot.TheVariants.{Ballot, Spent}
+use Rattle.std.specs.declared.option.Option.TheVariants.{None, Some}
 
 -- ── bits of a number ──
 
@@ -276,17 +275,17 @@ inserted set m s l e = let h = bit_small m (omega arith) in omega (arith, insert
 -- ── ballots ──
 
 -- who owns a ballot is its owner
-pub owner_of-owns : (ballot m : ℕ) → owns ballot m ≡ true → owner_of ballot ≡ Member m
+pub owner_of-owns : (ballot m : ℕ) → owns ballot m ≡ true → owner_of ballot ≡ Some m
 owner_of-owns ballot m e =
     let h = eqb-true (ballot % 256) (m + 1) e in
     let k : ballot % 256 - 1 ≡ m = omega arith in
     rw (ne_eqb (ballot % 256) 0 (λ z. omega arith), k)
 
 -- and its owner owns it
-pub owns_of_owner : (ballot m : ℕ) → owner_of ballot ≡ Member m → owns ballot m ≡ true
+pub owns_of_owner : (ballot m : ℕ) → owner_of ballot ≡ Some m → owns ballot m ≡ true
 owns_of_owner ballot m = go (decide (eqb (ballot % 256) 0))
   where
-    go : (eqb (ballot % 256) 0 ≡ true) ⊎ (eqb (ballot % 256) 0 ≡ false) → owner_of ballot ≡ Member m → owns ballot m ≡ true
+    go : (eqb (ballot % 256) 0 ≡ true) ⊎ (eqb (ballot % 256) 0 ≡ false) → owner_of ballot ≡ Some m → owns ballot m ≡ true
     go (inl t) e = let z : ◌≡◌ {A = ℕ} 0 1 = cc (rw t at e) in absurd (omega arith)
     go (inr t) e =
         let h = eqb-false (ballot % 256) 0 t in
@@ -310,7 +309,7 @@ pub next_owned : (max id : ℕ) → id ≤ 254 → owns (ballot_above max id) id
 next_owned max id l = eq-eqb (ballot_above max id % 256) (id + 1) (omega arith)
 
 -- the same, by name
-pub next_owner : (max id : ℕ) → id ≤ 254 → owner_of (ballot_above max id) ≡ Member id
+pub next_owner : (max id : ℕ) → id ≤ 254 → owner_of (ballot_above max id) ≡ Some id
 next_owner max id l = owner_of-owns (ballot_above max id) id (next_owned max id l)
 
 -- it is larger than the largest seen
@@ -332,24 +331,24 @@ pub record Next (max id ballot : ℕ) : Type 0 where
   pub made : ballot ≡ ballot_above max id
 
 -- and it is known of each
-pub Next-given : (max id ballot : ℕ) → next_ballot max id ≡ Ballot ballot → Next max id ballot
+pub Next-given : (max id ballot : ℕ) → next_ballot max id ≡ Some ballot → Next max id ballot
 Next-given max id ballot = go (decide (ltb 254 id || eqb (max / 256) 72057594037927935))
   where
     go : ((ltb 254 id || eqb (max / 256) 72057594037927935) ≡ true) ⊎ ((ltb 254 id || eqb (max / 256) 72057594037927935) ≡ false)
-        → next_ballot max id ≡ Ballot ballot → Next max id ballot
+        → next_ballot max id ≡ Some ballot → Next max id ballot
     go (inl t) e = let z : ◌≡◌ {A = ℕ} 0 1 = cc (rw t at e) in absurd (omega arith)
     go (inr t) e =
         let h = or-false (ltb 254 id) _ t in
         record { small = ltb-false 254 id h.0; left = eqb-false (max / 256) 72057594037927935 h.1; made = cc (rw t at e) }
 
 -- it is refused at the last round
-pub next_spent : (max id : ℕ) → max / 256 ≡ 72057594037927935 → next_ballot max id ≡ Spent
+pub next_spent : (max id : ℕ) → max / 256 ≡ 72057594037927935 → next_ballot max id ≡ None
 next_spent max id e = rw (eq-eqb (max / 256) 72057594037927935 e, or-true)
 
 -- and to an id that owns no ballot
-pub next_stranger : (max id : ℕ) → 254 < id → next_ballot max id ≡ Spent
+pub next_stranger : (max id : ℕ) → 254 < id → next_ballot max id ≡ None
 next_stranger max id l = rw (lt-ltb 254 id l)
 
 -- and made in every other case
-pub next_made : (max id : ℕ) → id ≤ 254 → (max / 256 ≡ 72057594037927935 → ⊥) → next_ballot max id ≡ Ballot (ballot_above max id)
+pub next_made : (max id : ℕ) → id ≤ 254 → (max / 256 ≡ 72057594037927935 → ⊥) → next_ballot max id ≡ Some (ballot_above max id)
 next_made max id l n = rw (le-ltb 254 id l, ne_eqb (max / 256) 72057594037927935 n)

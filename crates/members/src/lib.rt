@@ -10,71 +10,55 @@ ghost use Rattle.members.specs.Ballots.{owns, owner_of, next_ballot};
 
 use table::COUNTS;
 
-// Who made a ballot.
-#[derive(Clone, Copy)]
-pub enum Owner {
-    Nobody,
-    Member(u64),
-}
+// The most members that a group has: they are 0 to 8.
+pub const MEMBERS: u64 = 9;
 
-// The next ballot of a member, or that there is none (answer 8).
-#[derive(Clone, Copy)]
-pub enum NextBallot {
-    Ballot(u64),
-    Spent,
-}
+// The largest id that can own a ballot.
+const LAST_OWNER: u64 = 254;
+
+// The last round of ballots, 2^56 - 1: a ballot above it does not fit 64 bits.
+const LAST_ROUND: u64 = 72057594037927935;
 
 // Whether a member is in a set.
+#[tactic(auto, unfolding(crate::specs::Sets::has))]
 pub fn contains(set: u64, member: u64) -> bool
     ensures { result ≡ has set member }
 {
-    if 8 < member {
-        return false;
-    }
-    (set >> member) % 2 == 1
+    member < MEMBERS && (set >> member) % 2 == 1
 }
 
 // The set with a member put in.
+#[tactic(auto, using(crate::specs::Laws::bit_small), unfolding(crate::specs::Sets::insert))]
 pub fn with(set: u64, member: u64) -> u64
     ensures { result ≡ insert set member }
 {
-    if 511 < set {
-        return set;
+    if 511 < set || MEMBERS <= member || contains(set, member) {
+        set
+    } else {
+        set + (1 << member)
     }
-    if 8 < member {
-        return set;
-    }
-    if contains(set, member) {
-        return set;
-    }
-    set + (1 << member)
 }
 
 // How many of the members 0 to 8 are in a set: what the table says of its bits 0 to 8.
 pub fn count(set: u64) -> u64
     ensures { result ≡ count_in set }
 {
-    COUNTS[(set % 512) as usize] as u64
+    u64::from(COUNTS[(set % 512) as usize])
 }
 
 // Whether a set has no member outside a group of n.
+#[tactic(auto, using(crate::specs::Laws::within_all, crate::specs::Laws::within_shift))]
 pub fn within(set: u64, n: u64) -> bool
     ensures { result ≡ fits_group set n }
 {
-    if 63 < n {
-        return true;
-    }
-    set >> n == 0
+    63 < n || set >> n == 0
 }
 
 // Whether a group may have n members.
 pub fn is_group_size(n: u64) -> bool
     ensures { result ≡ group_size n }
 {
-    if 9 < n {
-        return false;
-    }
-    n % 2 == 1
+    n <= MEMBERS && n % 2 == 1
 }
 
 // How many members of a group of n are a quorum.
@@ -84,37 +68,27 @@ pub fn quorum(n: u64) -> u64
     n / 2 + 1
 }
 
-// Who made a ballot.
-pub fn owner_of(ballot: u64) -> Owner
+// Who made a ballot; none where the remainder is 0.
+pub fn owner_of(ballot: u64) -> Option<u64>
     ensures { result ≡ owner_of ballot }
 {
-    let rest = ballot % 256;
-    if rest == 0 {
-        return Owner::Nobody;
-    }
-    Owner::Member(rest - 1)
+    (ballot % 256).checked_sub(1)
 }
 
 // Whether a member made a ballot.
 pub fn is_owner(ballot: u64, member: u64) -> bool
     ensures { result ≡ owns ballot member }
 {
-    if 254 < member {
-        return false;
-    }
-    ballot % 256 == member + 1
+    owner_of(ballot) == Some(member)
 }
 
-// The ballot that a member makes above the largest that it has seen.
-pub fn next_ballot(max: u64, id: u64) -> NextBallot
+// The ballot that a member makes above the largest that it has seen; none (answer 8) at the last round, and to an id above 254.
+pub fn next_ballot(max: u64, id: u64) -> Option<u64>
     ensures { result ≡ next_ballot max id }
 {
-    if 254 < id {
-        return NextBallot::Spent;
-    }
     let round = max / 256;
-    if round == 72057594037927935 {
-        return NextBallot::Spent;
+    if LAST_OWNER < id || round == LAST_ROUND {
+        return None;
     }
-    NextBallot::Ballot((round + 1) * 256 + id + 1)
+    Some((round + 1) * 256 + id + 1)
 }

@@ -6,11 +6,11 @@ use tally::kept::merge_into;
 use tally::{Merged, Tally};
 
 pub(crate) fn merged(mut held: Tally, reply: Tally) -> Merged
-    ensures { result ≡ merging.merge held reply }
+    ensures { merging.numbered result ≡ merging.merge held reply }
 {
-    let answer = merge_into(&mut held, reply);
+    let outcome = merge_into(&mut held, reply);
     Merged {
-        answer: answer,
+        outcome,
         tally: held,
     }
 }

@@ -9,96 +9,69 @@
 mod lent;
 mod line;
 
-ghost use Rattle.std.specs.Prelude.{◌≤◌, length};
+ghost use Rattle.std.specs.Prelude.{◌≤◌, length, IfOk, IfErr};
 
-use feed::Input;
+use feed::{ReadFailed, read_more};
 use lent::merged;
-use line::put_line;
+use line::Page;
 use std::io::Read;
 use std::process::ExitCode;
 use tally::listed::listed;
 use tally::open_reads::nothing_known;
 use tally::{Merged, Tally};
-use trace::Record;
+use trace::Kind;
 
-// The tally so far, and where its next line goes.
-#[derive(Clone, Copy)]
-struct Run {
+// The tally so far, and the text of its lines.
+#[derive(Drop)]
+struct Merging<'a> {
     tally: Tally,
-    place: usize,
+    page: Page<'a>,
 }
 
-fn told(run: Run, m: Merged, text: &mut [u8]) -> Run {
-    let place = put_line(text, run.place, m);
-    let tally = m.tally;
-    Run {
-        tally: tally,
-        place: place,
+impl<'a> Merging<'a> {
+    fn tell(&mut self, m: Merged) {
+        self.page.line(m);
+        self.tally = m.tally;
     }
-}
 
-fn taken(run: Run, rec: Record, text: &mut [u8]) -> Run {
-    if rec.kind == 10 {
-        let fresh = nothing_known(rec.count);
-        let opened = Merged {
-            answer: 0,
-            tally: fresh,
-        };
-        return told(run, opened, text);
+    // One record.
+    fn take(&mut self, bytes: &[u8]) {
+        let rec = trace::record_at(bytes, 0);
+        if trace::is_malformed(rec, trace::sum_is_right(bytes, 0)) {
+            return;
+        }
+        match Kind::try_from(rec.kind) {
+            Ok(Kind::OpenRead) => self.tell(Merged {
+                outcome: Ok(()),
+                tally: nothing_known(rec.count),
+            }),
+            Ok(Kind::ReadReply) if rec.sub == 0 => self.tell(merged(
+                self.tally,
+                listed(rec.count, rec.entries),
+            )),
+            _ => {}
+        }
     }
-    if rec.kind == 11 && rec.sub == 0 {
-        let held = run.tally;
-        let entries = rec.entries;
-        let reply = listed(rec.count, entries);
-        let m = merged(held, reply);
-        return told(run, m, text);
-    }
-    run
-}
-
-fn taken_at(run: Run, bytes: &[u8], at: usize, text: &mut [u8]) -> Run {
-    let rec = trace::record_at(bytes, at);
-    let right = trace::sum_is_right(bytes, at);
-    if trace::is_malformed(rec, right) {
-        return run;
-    }
-    taken(run, rec, text)
-}
-
-// Every whole record.
-fn taken_all(mut run: Run, bytes: &[u8], text: &mut [u8]) -> Run {
-    for i in 0..bytes.len() / 256 {
-        run = taken_at(run, bytes, 256 * i, text);
-    }
-    run
-}
-
-// A count over 8: of the tally held, of the reply, of both.
-fn overlong(run: Run, text: &mut [u8]) -> Run {
-    let few = listed(2, [1; 24]);
-    let many = listed(9, [1; 24]);
-    let first = told(run, merged(many, listed(2, [2; 24])), text);
-    let second = told(first, merged(few, listed(9, [2; 24])), text);
-    told(second, merged(many, listed(9, [2; 24])), text)
 }
 
 // Reads to the end, or until the bytes are full: a turn that does not end adds one byte at least.
-fn filled(reader: &mut impl Read, errors: &impl Eprint, bytes: &mut [u8]) -> Input
-    ensures { result.have ≤ length bytes.new }
+fn filled(
+    reader: &mut impl Read,
+    errors: &impl Eprint,
+    bytes: &mut [u8],
+) -> Result<usize, ReadFailed>
+    ensures have { IfOk result (λ n. n ≤ length bytes.new) }
+    ensures failed { IfErr result (λ e. e.have ≤ length bytes.new) }
 {
     let mut have = 0;
     for turn in 0..bytes.len() {
-        let input = feed::read_more(reader, errors, bytes, have);
+        let input = read_more(reader, errors, bytes, have)?;
         have = input.have;
         if input.ended {
-            return input;
+            break;
         }
     }
-    Input {
-        have: have,
-        ended: false,
-        failed: false,
-    }
+    Ok(have)
 }
 
 // The status is 1 where a read or a write failed; where a read did, what came before it is merged and printed all the same.
@@ -106,16 +79,27 @@ fn main(rt: HostRuntime) -> ExitCode {
     let mut bytes = [0u8; 262144];
     let mut text = [0u8; 262144];
     let (mut reader, mut writer) = (rt.stdin(), rt.stdout());
-    let input = filled(&mut reader, &rt, &mut bytes);
-    let none = nothing_known(0);
-    let start = Run {
-        tally: none,
-        place: 0,
+    let read = filled(&mut reader, &rt, &mut bytes);
+    let have = match read {
+        Ok(have) => have,
+        Err(failed) => failed.have,
     };
-    let all = taken_all(start, &bytes[0..input.have], &mut text);
-    let end = overlong(all, &mut text);
-    let written = feed::write_text(&mut writer, &rt, &text, end.place);
-    if input.failed || !written {
+    let mut merging = Merging {
+        tally: nothing_known(0),
+        page: Page {
+            text: &mut text,
+            at: 0,
+        },
+    };
+    for record in bytes[..have].chunks_exact(256) {
+        merging.take(record);
+    }
+    // A count over 8: of the tally held, of the reply, of both.
+    for (held, reply) in [(9, 2), (2, 9), (9, 9)] {
+        merging.tell(merged(listed(held, [1; 24]), listed(reply, [2; 24])));
+    }
+    let written = merging.page.write(&mut writer, &rt);
+    if read.is_err() || written.is_err() {
         return ExitCode::FAILURE;
     }
     ExitCode::SUCCESS

@@ -1,21 +1,24 @@
 -- The call that a record of each kind names, the ways of playing one, and that on a base replica kind 8's ballot makes no difference.
-use Rattle.std.specs.Prelude.{◌≡◌, ℕ, Bool, true, false, List, ◌==◌, ◌≢◌}
-use Rattle.std.proofs.Common.{sym, ◌∙◌}
+use Rattle.std.specs.Prelude.{◌≡◌, ℕ, Bool, true, false, List, ◌==◌, ◌≢◌, ◌<◌}
+use Rattle.std.proofs.Common.{sym, ◌∙◌, ap, arith, refl}
 use borrow.Author.Tests.{eq-eqb, ne_eqb}
 use Rattle.batch.specs.declared.Batch.{Batch}
 use Rattle.tally.specs.declared.Tally.{Tally}
 use Rattle.decide.specs.declared.Reply.{Reply}
 use Rattle.decide.specs.Scalars.{strict}
 use Rattle.replica.specs.declared.Replica.{Replica}
-use Rattle.replica.specs.declared.Made.{Made}
+use Rattle.replica.specs.Seen.{Made}
 use Rattle.replica.specs.declared.Done.{Done}
-use Rattle.replica.specs.Record.{kept, place, new_replica}
+use Rattle.replica.specs.Record.{Outcome, kept, place, new_replica}
 use Rattle.replica.specs.Durability.{logged_on, logged_step}
 use Rattle.replica.specs.CompletionLaws.{done_alike}
 use Rattle.replica.specs.Step.{call_prepare, call_prepare_reply, call_accept, call_accept_reply, call_commit_notice, call_timeout, call_logged, call_offer, call_executed, call_open_read, call_read_reply, step}
 use Rattle.trace.specs.declared.Record.{Record}
+use Rattle.trace.specs.declared.kind.Kind.{Kind}
+use Rattle.trace.specs.Kinds.{number_of}
+use Rattle.trace.specs.Laws.{bad_number}
 use Rattle.trace.specs.Records.{keys_of, malformed, record_at, sum_right}
-use Rattle.play.specs.Play.{batch_of, tally_of, reply_of, entry_of, done_of, own_call_of, call_of, renewed, played, played_at}
+use Rattle.play.specs.Play.{batch_of, tally_of, reply_of, entry_of, done_of, own_call_of, call_of, renewed, named, played, played_at}
 
 module _ (r : Replica) (n : ℕ) (d : Record) where
   pub calls_prepare : d.kind ≡ 1 → step r n (call_of d) ≡ step r n (call_prepare d.peer d.trigger d.ballot)
@@ -68,6 +71,18 @@ module _ (r : Replica) (n : ℕ) (d : Record) where
   unfolding own_call_of
   calls_read t a b c e f = rw (ne_eqb d.kind 7 a, ne_eqb d.kind 8 b, ne_eqb d.kind 9 c, ne_eqb d.kind 10 e, f)
 
+  -- what a record names, by the case of its kind
+  pub kind_is : {kind : Kind} (k : Kind) → number_of kind ≡ d.kind → kind ≡ k → d.kind ≡ number_of k
+  kind_is k e f = sym e ∙ ap number_of f
+
+  pub names_call : (o : Outcome) → 0 < d.kind → step r n (call_of d) ≡ o → named r n d ≡ o
+  names_call o h e = rw (ne_eqb d.kind 0 (λ z. omega arith)) e
+
+  pub names_own : (o : Outcome) → 6 < d.kind → step r n (own_call_of d) ≡ o → named r n d ≡ o
+  names_own o h e =
+      names_call o (omega arith)
+      (calls_own (λ z. omega arith) (λ z. omega arith) (λ z. omega arith) (λ z. omega arith) (λ z. omega arith) (λ z. omega arith) ∙ e)
+
   -- ── a record, malformed, for a new replica, or with a call ──
 
   pub plays_malformed : (right b : Bool) → b ≡ malformed d right → b ≡ true → played r n d right ≡ kept 13 r
@@ -77,6 +92,13 @@ module _ (r : Replica) (n : ℕ) (d : Record) where
   pub plays_new : (right b : Bool) → b ≡ malformed d right → b ≡ false → d.kind ≡ 0 → played r n d right ≡ renewed r d
   unfolding played
   plays_new right b e f g = rw (sym e ∙ f, g)
+
+  pub plays_named : (right b : Bool) → b ≡ malformed d right → b ≡ false → played r n d right ≡ named r n d
+  unfolding played
+  plays_named right b e f = rw (sym e ∙ f)
+
+  pub plays_number : (right : Bool) → 11 < d.kind → played r n d right ≡ kept 13 r
+  plays_number right h = plays_malformed right true (sym (bad_number d right h)) refl
 
   pub plays_call : (right b : Bool) → b ≡ malformed d right → b ≡ false → (d.kind ≢ 0) → played r n d right ≡ step r n (call_of d)
   unfolding played

@@ -8,7 +8,7 @@ use Rattle.words.specs.Put.{Written}
 use Rattle.words.specs.PutLaws.{Written-then, Written-fits, put_fits, next_fits, put_none}
 use Rattle.words.specs.Decimal.{decimal}
 use Rattle.words.specs.DecimalLaws.{decimal_most}
-use Rattle.replica.specs.declared.Handled.{Handled}
+use Rattle.replica.specs.Seen.{Handled}
 use Rattle.replica.specs.Step.{Told}
 use Rattle.play.specs.declared.Run.{Run}
 use Rattle.play.specs.Play.{played_at, line_of}

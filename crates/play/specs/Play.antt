@@ -5,8 +5,9 @@ use Rattle.batch.specs.declared.Batch.{Batch}
 use Rattle.tally.specs.declared.Tally.{Tally}
 use Rattle.tally.specs.Listed.{listed}
 use Rattle.decide.specs.declared.Reply.{Reply}
+use Rattle.decide.specs.declared.Scalars.{Scalars}
 use Rattle.replica.specs.declared.Replica.{Replica}
-use Rattle.replica.specs.declared.Handled.{Handled}
+use Rattle.replica.specs.Seen.{Handled}
 use Rattle.replica.specs.declared.Entry.{Entry}
 use Rattle.replica.specs.declared.Entry.TheVariants.{PrepareBal, AcceptData, CommitSlot}
 use Rattle.replica.specs.declared.Done.{Done}
@@ -71,6 +72,10 @@ renewed r d =
     (kept 0 (new_replica d.peer d.sub d.slot d.trigger).replica)
     (kept (new_replica d.peer d.sub d.slot d.trigger).answer r)
 
+-- what a record that isn't malformed names
+abbrev pub named : Replica → ℕ → Record → Outcome
+named r room d = pick (d.kind == 0) (renewed r d) (step r room (call_of d))
+
 -- 13: "prints 13, 0 actions and the replica's numbers unchanged"
 unfoldable pub played : Replica → ℕ → Record → Bool → Outcome
 played r room d right = pick (malformed d right) (kept 13 r) (pick (d.kind == 0) (renewed r d) (step r room (call_of d)))
@@ -80,7 +85,8 @@ abbrev pub played_at : Replica → ℕ → List ℕ → ℕ → Outcome
 played_at r room bytes at = played r room (record_at bytes at) (sum_right bytes at)
 
 -- "Each record prints: number, answer, action count, bal_max_seen, accept_bar, commit_bar, exec_bar."
+abbrev pub line_from : ℕ → ℕ → ℕ → Scalars → List ℕ
+line_from n answer count sc = n ∷ answer ∷ count ∷ sc.bal_max_seen ∷ sc.accept_bar ∷ sc.commit_bar ∷ sc.exec_bar ∷ []
+
 abbrev pub line_of : ℕ → Handled → List ℕ
-line_of n h =
-    n ∷ h.answer ∷ h.count ∷ h.replica.sc.bal_max_seen ∷ h.replica.sc.accept_bar ∷ h.replica.sc.commit_bar
-    ∷ h.replica.sc.exec_bar ∷ []
+line_of n h = line_from n h.answer h.count h.replica.sc

@@ -1,98 +1,70 @@
 // One record, played: a new replica, or the call that the record names.
 ghost use Rattle.std.specs.Prelude.{◌≡◌, length};
+ghost use Rattle.replica.specs.Seen.{seen};
 ghost use Rattle.replica.specs.Step.{Told, step};
-ghost use Rattle.play.specs.Play.{own_call_of, call_of, renewed, played_at};
+ghost use Rattle.trace.specs.Kinds.{number_of};
+ghost use Rattle.play.specs.Play.{renewed, named, played_at};
 
 use crate::fields::{batch_of, done_of, reply_of, tally_of};
 use reader::read_at;
-use replica::{Handled, Replica};
-use trace::{Record, is_malformed, keys_of, sum_is_right};
+use replica::{Handled, Refusal, Replica};
+use trace::{Kind, Record, is_malformed, keys_of, sum_is_right};
 
-// What an answer hands back that keeps the replica.
-fn kept(r: Replica, answer: u64) -> Handled
-    ensures { result ≡ record { answer = answer; count = 0; replica = r } }
+// A refusal, which keeps the replica.
+// Kept: `Replica::refused` stays inside its crate, since a public one would be one more promise.
+fn refused(r: Replica, refusal: Refusal) -> Handled
+    ensures { result ≡ record { outcome = Err refusal; replica = r } }
 {
     Handled {
-        answer: answer,
-        count: 0,
+        outcome: Err(refusal),
         replica: r,
     }
 }
 
 // Kind 0. The room is lent for the promise alone, and stays as it is.
 fn renew(r: Replica, room: &mut [u64], rec: Record) -> Handled
-    ensures { Told (renewed r rec) result room.old room.new }
+    ensures { Told (renewed r rec) (seen result) room.old room.new }
 {
     let made = Replica::new(rec.peer, rec.sub, rec.slot, rec.trigger);
-    if made.answer != 0 {
-        return kept(r, made.answer);
+    match made.outcome {
+        Ok(()) => Handled {
+            outcome: Ok(0),
+            replica: made.replica,
+        },
+        Err(refusal) => refused(r, refusal),
     }
-    let fresh = made.replica;
-    kept(fresh, 0)
 }
 
-// Plays the record that begins at a place of lent bytes.
+/// Plays the record that begins at a place of lent bytes.
 pub fn play_at(r: Replica, room: &mut [u64], bytes: &[u8], at: usize) -> Handled
-    ensures { Told (played_at r (length room.old) bytes.now at) result room.old room.new }
+    ensures { Told (played_at r (length room.old) bytes.now at) (seen result) room.old room.new }
 {
-    let step = read_at(bytes, at);
-    let rec = step.read;
+    let rec = read_at(bytes, at).read;
     let right = sum_is_right(bytes, at);
-    if is_malformed(rec, right) {
-        return kept(r, 13);
+    match Kind::try_from(rec.kind) {
+        Ok(kind) if !is_malformed(rec, right) => call(r, room, kind, rec),
+        _ => refused(r, Refusal::Malformed),
     }
-    if rec.kind == 0 {
-        return renew(r, room, rec);
-    }
-    call(r, room, rec)
 }
 
-// The call of a record that names one.
-fn call(r: Replica, room: &mut [u64], rec: Record) -> Handled
-    ensures { Told (step r (length room.old) (call_of rec)) result room.old room.new }
+// What a record that isn't malformed names: a new replica, or a call. The last five kinds no member of the group sends: offers, and what the
+// host's own log, store and readers tell.
+fn call(r: Replica, room: &mut [u64], kind: Kind, rec: Record) -> Handled
+    requires { number_of kind ≡ rec.kind }
+    ensures { Told (named r (length room.old) rec) (seen result) room.old room.new }
 {
-    if rec.kind == 1 {
-        return r.prepare(room, rec.peer, rec.trigger, rec.ballot);
+    match kind {
+        Kind::New => renew(r, room, rec),
+        Kind::Prepare => r.prepare(room, rec.peer, rec.trigger, rec.ballot),
+        Kind::PrepareReply => r.prepare_reply(room, rec.peer, reply_of(rec)),
+        Kind::Accept => r.accept(room, rec.peer, rec.slot, rec.ballot, batch_of(rec)),
+        Kind::AcceptReply => r.accept_reply(room, rec.peer, rec.slot, rec.ballot),
+        Kind::CommitNotice => r.commit_notice(room, rec.peer, rec.ballot, rec.bar),
+        Kind::Timeout => r.timeout(room, rec.peer),
+        Kind::Offer => r.offer(room, batch_of(rec)),
+        Kind::Logged => r.logged(room, done_of(rec)),
+        Kind::Executed => r.executed(room, rec.slot),
+        Kind::OpenRead => r.open_read(room, rec.slot, rec.count, keys_of(rec)),
+        Kind::ReadReply => { r.read_reply(room, rec.peer, rec.slot, rec.sub == 1, tally_of(rec)) }
     }
-    if rec.kind == 2 {
-        let m = reply_of(rec);
-        return r.prepare_reply(room, rec.peer, m);
-    }
-    if rec.kind == 3 {
-        let batch = batch_of(rec);
-        return r.accept(room, rec.peer, rec.slot, rec.ballot, batch);
-    }
-    if rec.kind == 4 {
-        return r.accept_reply(room, rec.peer, rec.slot, rec.ballot);
-    }
-    if rec.kind == 5 {
-        return r.commit_notice(room, rec.peer, rec.ballot, rec.bar);
-    }
-    if rec.kind == 6 {
-        return r.timeout(room, rec.peer);
-    }
-    call_own(r, room, rec)
-}
-
-// What no member of the group sends: offers, and what the host's own log, store and readers tell.
-fn call_own(r: Replica, room: &mut [u64], rec: Record) -> Handled
-    ensures { Told (step r (length room.old) (own_call_of rec)) result room.old room.new }
-{
-    if rec.kind == 7 {
-        let batch = batch_of(rec);
-        return r.offer(room, batch);
-    }
-    if rec.kind == 8 {
-        let done = done_of(rec);
-        return r.logged(room, done);
-    }
-    if rec.kind == 9 {
-        return r.executed(room, rec.slot);
-    }
-    if rec.kind == 10 {
-        let keys = keys_of(rec);
-        return r.open_read(room, rec.slot, rec.count, keys);
-    }
-    let reply = tally_of(rec);
-    r.read_reply(room, rec.peer, rec.slot, rec.sub == 1, reply)
 }

@@ -14,11 +14,10 @@ use trace::{Record, keys_of};
 pub(crate) fn batch_of(rec: Record) -> Batch
     ensures { result ≡ batch_of rec }
 {
-    let keys = keys_of(rec);
     Batch {
         id: rec.batch,
         count: rec.count,
-        keys: keys,
+        keys: keys_of(rec),
     }
 }
 
@@ -26,26 +25,23 @@ pub(crate) fn batch_of(rec: Record) -> Batch
 pub(crate) fn tally_of(rec: Record) -> Tally
     ensures { result ≡ tally_of rec }
 {
-    let entries = rec.entries;
-    listed(rec.count, entries)
+    listed(rec.count, rec.entries)
 }
 
 // A PrepareReply.
 pub(crate) fn reply_of(rec: Record) -> Reply
     ensures { result ≡ reply_of rec }
 {
-    let batch = batch_of(rec);
-    let vote = Vote {
-        ballot: rec.voted,
-        batch: batch,
-    };
     Reply {
         slot: rec.slot,
         trigger: rec.trigger,
         endprep: rec.endprep,
         ballot: rec.ballot,
         voted: rec.sub == 1,
-        vote: vote,
+        vote: Vote {
+            ballot: rec.voted,
+            batch: batch_of(rec),
+        },
         bar: rec.bar,
     }
 }
@@ -54,22 +50,19 @@ pub(crate) fn reply_of(rec: Record) -> Reply
 fn entry_of(sub: u64) -> Entry
     ensures { result ≡ entry_of sub }
 {
-    if sub == 1 {
-        return Entry::PrepareBal;
+    match sub {
+        1 => Entry::PrepareBal,
+        2 => Entry::AcceptData,
+        _ => Entry::CommitSlot,
     }
-    if sub == 2 {
-        return Entry::AcceptData;
-    }
-    Entry::CommitSlot
 }
 
 // A log completion.
 pub(crate) fn done_of(rec: Record) -> Done
     ensures { result ≡ done_of rec }
 {
-    let entry = entry_of(rec.sub);
     Done {
-        entry: entry,
+        entry: entry_of(rec.sub),
         slot: rec.slot,
         ballot: rec.ballot,
         size: rec.bar,

@@ -6,13 +6,14 @@ mod fields;
 mod lines;
 
 ghost use Rattle.std.specs.Prelude.{◌≡◌};
-ghost use Rattle.play.specs.Play.{line_of};
+ghost use Rattle.play.specs.Play.{line_from};
 
 pub use calls::play_at;
+use decide::Scalars;
 pub use lines::{put_row, show_all, show_at};
-use replica::{Handled, Replica};
+use replica::Replica;
 
-// A run: how many records were played, the place after the text of their lines, and the replica after them.
+/// A run: how many records were played, the place after the text of their lines, and the replica after them.
 #[derive(Clone, Copy)]
 pub struct Run {
     pub number: u64,
@@ -20,15 +21,14 @@ pub struct Run {
     pub replica: Replica,
 }
 
-// The seven numbers that a record prints.
-pub fn line_of(number: u64, h: Handled) -> [u64; 7]
-    ensures { result ≡ line_of number h }
+/// The seven numbers that a record prints: its own, the answer, how many actions, and four of the replica's.
+pub fn line_of(number: u64, answer: u64, count: usize, sc: Scalars) -> [u64; 7]
+    ensures { result ≡ line_from number answer count sc }
 {
-    let sc = h.replica.sc;
     [
         number,
-        h.answer,
-        h.count as u64,
+        answer,
+        count as u64,
         sc.bal_max_seen,
         sc.accept_bar,
         sc.commit_bar,

@@ -6,7 +6,7 @@ ghost use Rattle.play.specs.Lines.{item_text, end_of, row_text, Rowed, Shows, sh
 use crate::calls::play_at;
 use crate::{Run, line_of};
 
-// Puts a row of numbers at a place and gives the next; where there are not 21 bytes a number, nothing changes and the place stays.
+/// Puts a row of numbers at a place and gives the next; where there are not 21 bytes a number, nothing changes and the place stays.
 pub fn put_row(text: &mut [u8], at: usize, row: &[u64]) -> usize
     ensures { Rowed text.old at row.now result text.new }
 {
@@ -45,30 +45,25 @@ fn end_of(i: usize, n: usize) -> u8
     requires { i + 1 ≤ n }
     ensures { result ≡ end_of i n }
 {
-    if i + 1 == n {
-        return 10;
-    }
-    32
+    if i + 1 == n { b'\n' } else { b' ' }
 }
 
-// Plays the record that begins at a place, and puts its line into the text.
+/// Plays the record that begins at a place, and puts its line into the text.
 pub fn show_at(run: Run, room: &mut [u64], bytes: &[u8], at: usize, text: &mut [u8]) -> Run
     ensures { Shows (shown_at bytes.now at (record { run = run; room = room.old; text = text.old })) result room.new text.new }
 {
-    let before = run.replica;
-    let h = play_at(before, room, bytes, at);
-    let number = std::num::wrapping_add_u64(run.number, 1);
-    let line = line_of(number, h);
+    let h = play_at(run.replica, room, bytes, at);
+    let number = run.number.wrapping_add(1);
+    let line = line_of(number, h.answer(), h.count(), h.replica.sc);
     let place = put_row(text, run.place, &line);
-    let after = h.replica;
     Run {
-        number: number,
-        place: place,
-        replica: after,
+        number,
+        place,
+        replica: h.replica,
     }
 }
 
-// Plays every whole record.
+/// Plays every whole record.
 pub fn show_all(mut run: Run, room: &mut [u64], bytes: &[u8], text: &mut [u8]) -> Run
     ensures { Shows (shown bytes.now (length bytes.now / 256) (record { run = run; room = room.old; text = text.old })) result room.new text.new }
 {

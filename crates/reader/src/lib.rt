@@ -7,46 +7,46 @@ ghost use Rattle.reader.specs.Steps.{after_at, step_at, started, moved_on};
 
 use trace::{Next, Record, next_record, record_at};
 
+// Kept: no slice alone, since 01 pins "a reader steps through a lent trace" as a struct that holds the lent bytes and a place.
 #[derive(Clone, Copy)]
 pub struct Reader<'a> {
     pub bytes: &'a [u8],
     pub at: usize,
 }
 
-// What a reader finds at its place: what stands there, the numbers of a whole record (else all zero), and the place after it.
-#[derive(Clone, Copy)]
+/// What a reader finds at its place: what stands there, the numbers of a whole record (else all zero), and the place after it.
+#[derive(Clone, Copy, Debug, PartialEq, Eq)]
 pub struct Step {
     pub found: Next,
     pub read: Record,
     pub after: usize,
 }
 
-// The reader at the first place.
+/// The reader at the first place.
 pub fn new<'a>(bytes: &'a [u8]) -> Reader<'a>
     ensures { result ≡ started bytes.entry }
 {
     Reader { bytes, at: 0 }
 }
 
-// What stands at the reader's place.
+/// What stands at the reader's place.
 pub fn next<'a>(r: Reader<'a>) -> Step
     ensures { result ≡ step_at r.entry.bytes.now r.entry.at }
 {
     step_at(r.bytes, r.at)
 }
 
-// The reader after it.
+/// The reader after it.
 pub fn after<'a>(r: Reader<'a>) -> Reader<'a>
     ensures { result ≡ moved_on r.entry }
 {
-    let place = after_at(r.bytes, r.at);
     Reader {
-        bytes: r.bytes,
-        at: place,
+        at: after_at(r.bytes, r.at),
+        ..r
     }
 }
 
-// What a reader finds at a place of lent bytes, for callers that hold no reader.
+/// What a reader finds at a place of lent bytes, for callers that hold no reader.
 pub fn read_at(bytes: &[u8], at: usize) -> Step
     ensures { result ≡ step_at bytes.now at }
 {
@@ -57,13 +57,10 @@ pub fn read_at(bytes: &[u8], at: usize) -> Step
 fn step_at(bytes: &[u8], at: usize) -> Step
     ensures { result ≡ step_at bytes.now at }
 {
-    let found = next_record(bytes, at);
-    let read = record_at(bytes, at);
-    let after = after_at(bytes, at);
     Step {
-        found: found,
-        read: read,
-        after: after,
+        found: next_record(bytes, at),
+        read: record_at(bytes, at),
+        after: after_at(bytes, at),
     }
 }
 

@@ -1,6 +1,6 @@
 -- What a function inside the crate may count on.
 use Rattle.std.specs.Prelude.{◌≡◌, List, ℕ, ◌+◌, ◌≤◌, ◌<◌, length}
-use Rattle.decide.specs.declared.Decided.{Decided}
+use Rattle.decide.specs.Decide.{Decided}
 use Rattle.decide.specs.Laws.{Settles}
 use Rattle.window.specs.declared.Window.{Window}
 use Rattle.window.specs.Window.{slot_at}

@@ -1,5 +1,5 @@
 -- The laws of what a call hands back.
-use Rattle.std.specs.Prelude.{◌≡◌, Bool, not, ◌&&◌, List, ℕ, ◌+◌, ◌≤◌, ◌<◌, length, eqb}
+use Rattle.std.specs.Prelude.{◌≡◌, Bool, not, ◌&&◌, List, ℕ, ◌+◌, ◌≤◌, ◌<◌, length, eqb, Ok, Err}
 use Rattle.std.proofs.Math.Path.{refl}
 use Rattle.std.proofs.Common.{sym, ap, subst, ◌∙◌, zero-add, arith, eq-eqb, ne_eqb}
 use Rattle.std.proofs.Math.Bool.{true, false, and-false}
@@ -11,7 +11,7 @@ use Rattle.batch.specs.Keys.{overfull, refresh}
 use Rattle.actions.specs.Actions.{Act, write_at, write_actions, says_acts}
 use Rattle.actions.specs.Saying.{Said}
 use Rattle.actions.specs.Laws.{write_front, Said-in}
-use Rattle.decide.specs.declared.Decided.{Decided}
+use Rattle.decide.specs.Decide.{Decided}
 use Rattle.decide.specs.Laws.{Steady, Settles, done, refused}
 use Rattle.window.specs.declared.Window.{Window}
 use Rattle.window.specs.declared.Summary.{Summary}
@@ -23,7 +23,10 @@ use Rattle.window.specs.Bounded.{stop_in, passes}
 use Rattle.window.specs.BoundedLaws.{stop_in_lem}
 use Rattle.window.specs.Laws.{passes_status}
 use Rattle.replica.specs.declared.Replica.{Replica}
-use Rattle.replica.specs.declared.Handled.{Handled}
+use Rattle.replica.specs.declared.Refusal.{Refusal}
+use Rattle.replica.specs.declared as code
+use Rattle.replica.specs.Seen.{Handled, refusal_number, seen}
+use Rattle.replica.specs.SeenLaws.{refused_apart}
 use Rattle.replica.specs.Record.{Outcome, kept, noting, settled, summed}
 use Rattle.replica.specs.Step.{Told}
 use Rattle.replica.specs.Acting.{SettleFits}
@@ -70,6 +73,15 @@ pub keep : {h : Handled} {o : Outcome} {room : List ℕ} (n : ℕ) (r : Replica)
     → Told (summed o) h room room
 keep n r g e s = kept-Told n r g (ap summed e ∙ summed-kept n r s)
 
+-- the same of the code's values
+pub refused_told : {h : code.Handled.Handled} {o : Outcome} {room : List ℕ} (e : Refusal) (r : Replica) → h ≡ record { outcome = Err e; replica = r }
+    → o ≡ kept (refusal_number e) r → Told (summed o) (seen h) room room
+refused_told e r g q = refuse (refusal_number e) r (ap seen g) q (refused_apart e)
+
+pub ignored_told : {h : code.Handled.Handled} {o : Outcome} {room : List ℕ} (r : Replica) → h ≡ record { outcome = Ok 0; replica = r } → o ≡ kept 0 r → Summed r
+    → Told (summed o) (seen h) room room
+ignored_told r g q s = keep 0 r (ap seen g) q s
+
 -- a callee's outcome is the call's, where the two are equal
 pub told : {o p : Outcome} {h : Handled} {room after : List ℕ} → o ≡ p → Told (summed p) h room after → Told (summed o) h room after
 told e t = rw e t
@@ -82,7 +94,7 @@ acted {o} {h} {room} {after} acts r u n g e w f s =
     subst (λ (p : Outcome). Told p h room after) (sym (summed_done r u acts f s))
     (record { handed = g ∙ ap (λ (m : ℕ). record { answer = 0; count = m; replica = with_summary r u }) e; written = w ∙ write_front room acts })
 
--- any two that an outcome allows coincide
+-- any two that an outcome allows coincide; of two values of the code the same is seen, and `seen_unique` says that they are one
 pub Told-unique : {o : Outcome} {h h' : Handled} {room after after' : List ℕ} → Told o h room after → Told o h' room after' → (h ≡ h') × (after ≡ after')
 Told-unique s t = (s.handed ∙ sym t.handed, s.written ∙ sym t.written)
 

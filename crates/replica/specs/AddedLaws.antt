@@ -9,7 +9,7 @@ use Rattle.batch.specs.Batches.{is_batch}
 use Rattle.slots.specs.declared.Slot.{Slot}
 use Rattle.slots.specs.Slots.{executed_slot, null_slot}
 use Rattle.decide.specs.declared.Scalars.{Scalars}
-use Rattle.decide.specs.declared.Decided.{Decided}
+use Rattle.decide.specs.Decide.{Decided}
 use Rattle.decide.specs.Scalars.{with_bars}
 use Rattle.decide.specs.Decide.{may_offer, decide_offer}
 use Rattle.decide.specs.Laws.{Settles-offer}

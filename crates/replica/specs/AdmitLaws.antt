@@ -213,6 +213,17 @@ module _ (r : Replica) (room : ℕ) where
       pub owner_some : from_peer r room peer ≡ 0 → owns ballot peer ≡ true → 0 ≡ from_owner r room peer ballot
       owner_some e f = sym (ap (λ (t : Bool). pick (not t) 3 0) f) ∙ owner_then e
 
+-- the same of a number that is not 0, as the code has it of a refusal
+module _ (r : Replica) (room : ℕ) {n : ℕ} (h : n ≡ 0 → ⊥) where
+  pub member_shut : (member : ℕ) → n ≡ ready_answer r room → n ≡ from_member r room member
+  member_shut member e = e ∙ member_unready r room member (λ z. h (e ∙ z))
+
+  pub peer_shut : (peer : ℕ) → n ≡ ready_answer r room → n ≡ from_peer r room peer
+  peer_shut peer e = e ∙ peer_unready r room peer (λ z. h (e ∙ z))
+
+  pub owner_shut : (peer ballot : ℕ) → n ≡ from_peer r room peer → n ≡ from_owner r room peer ballot
+  owner_shut peer ballot e = e ∙ owner_first r room peer ballot (λ z. h (e ∙ z))
+
 -- ── what a call may count on ──
 
 -- the numbers of a record that is fit, with room for 192 actions
@@ -335,3 +346,20 @@ owner_facts r room peer ballot e =
       sender = peer_known r room peer (not-false (ready r room) p1.0) (not-false (is_peer r.sc peer) p2.0);
       owned = not-false (owns ballot peer) p3.0;
     }
+
+-- what a call may count on once the code's first test has let it through
+module _ (r : Replica) (room : ℕ) where
+  pub ready_open : 0 ≡ ready_answer r room → ready r room ≡ true
+  ready_open e = ready_by r room e refl
+
+  pub ready_holds : 0 ≡ ready_answer r room → Ready r room
+  ready_holds e = ready_facts r room (ready_open e)
+
+  pub member_open : (member : ℕ) → 0 ≡ from_member r room member → Ready r room
+  member_open member e = (member_facts r room member (sym e)).facts
+
+  pub peer_open : (peer : ℕ) → 0 ≡ from_peer r room peer → Ready r room
+  peer_open peer e = (peer_facts r room peer (sym e)).facts
+
+  pub owner_open : (peer ballot : ℕ) → 0 ≡ from_owner r room peer ballot → Ready r room
+  owner_open peer ballot e = (owner_facts r room peer ballot (sym e)).sender.facts

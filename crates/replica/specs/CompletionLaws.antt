@@ -21,7 +21,7 @@ use Rattle.actions.specs.Laws.{write_none, write_then}
 use Rattle.slots.specs.declared.Slot.{Slot}
 use Rattle.slots.specs.Slots.{logged_slot, passed_slot}
 use Rattle.decide.specs.declared.Scalars.{Scalars}
-use Rattle.decide.specs.declared.Decided.{Decided}
+use Rattle.decide.specs.Decide.{Decided}
 use Rattle.decide.specs.declared.Reply.{Reply}
 use Rattle.decide.specs.Scalars.{leads, strict, with_accept_bar, with_bars, with_log_size, notifies}
 use Rattle.decide.specs.Decide.{decide_promised, is_stale, decide_accepted}
@@ -38,7 +38,7 @@ use Rattle.window.specs.Bounded.{stop_in, passes}
 use Rattle.window.specs.BoundedLaws.{stop_in_lem}
 use Rattle.window.specs.Laws.{passes_status}
 use Rattle.replica.specs.declared.Replica.{Replica}
-use Rattle.replica.specs.declared.Handled.{Handled}
+use Rattle.replica.specs.Seen.{Handled}
 use Rattle.replica.specs.declared.Entry.{Entry}
 use Rattle.replica.specs.declared.Entry.TheVariants.{PrepareBal, AcceptData, CommitSlot}
 use Rattle.replica.specs.declared.Done.{Done}

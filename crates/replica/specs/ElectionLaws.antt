@@ -9,8 +9,8 @@ use Rattle.std.proofs.Math.ListN.{length, length-append}
 use borrow.Author.Tests.{lt-ltb, le-ltb, le-leb, lt-leb, eq-eqb, ne_eqb}
 use Rattle.base.specs.Pick.{pick}
 use Rattle.base.specs.Scan.{scan, scan_below}
-use Rattle.members.specs.declared.NextBallot.{NextBallot}
-use Rattle.members.specs.declared.NextBallot.TheVariants.{Ballot, Spent}
+use Rattle.std.specs.declared.option.Option.{Option}
+use Rattle.std.specs.declared.option.Option.TheVariants.{None, Some}
 use Rattle.members.specs.Ballots.{next_ballot}
 use Rattle.actions.specs.declared.Action.TheVariants.{Prepare, Heartbeat, StatusUp}
 use Rattle.actions.specs.Actions.{Act, bare, write_at, put_act}
@@ -62,10 +62,10 @@ module _ (r : Replica) (room source : ℕ) where
       pub timeout_ignored : b ≡ true → timeout_step r room source ≡ kept 0 r
       timeout_ignored g = timeout_on ∙ ap until_step_up g
 
-      pub timeout_goes : {x y : NextBallot} → b ≡ false → x ≡ next_ballot r.sc.bal_max_seen r.sc.id → x ≡ y → timeout_step r room source ≡ step_up r y
+      pub timeout_goes : {x y : Option ℕ} → b ≡ false → x ≡ next_ballot r.sc.bal_max_seen r.sc.id → x ≡ y → timeout_step r room source ≡ step_up r y
       timeout_goes g p q = timeout_on ∙ ap until_step_up g ∙ ap (step_up r) (sym p ∙ q)
 
-pub step_spent : (r : Replica) → step_up r Spent ≡ kept 8 r
+pub step_spent : (r : Replica) → step_up r None ≡ kept 8 r
 unfolding step_up
 step_spent r = refl
 
@@ -84,18 +84,18 @@ module _ (r : Replica) (room : List ℕ) (f : StepFits r r.window room) where
   place_is = omega (arith, found)
 
   module _ (ballot : ℕ) where
-    pub step_below : trigger < r.sc.exec_bar → step_up r (Ballot ballot) ≡ kept 8 r
+    pub step_below : trigger < r.sc.exec_bar → step_up r (Some ballot) ≡ kept 8 r
     unfolding step_up
     step_below h = rw (lt-ltb (r.sc.start + first_open r.window) r.sc.exec_bar (omega (arith, found)))
 
     module _ (h : r.sc.exec_bar ≤ trigger) where
-      pub step_full : 64 ≤ trigger - r.sc.start → step_up r (Ballot ballot) ≡ kept 5 r
+      pub step_full : 64 ≤ trigger - r.sc.start → step_up r (Some ballot) ≡ kept 5 r
       unfolding step_up
       step_full q =
           rw (le-ltb (r.sc.start + first_open r.window) r.sc.exec_bar (omega (arith, found)), le-leb 64 (first_open r.window) (omega (arith, place_is)))
 
       pub step_on : {last : ℕ} {w : Window} → trigger - r.sc.start < 64 → last ≡ last_open_in r.window → w ≡ filled_in null_slot r.window (trigger - r.sc.start + 1)
-          → step_up r (Ballot ballot) ≡ lead_on r w trigger (r.sc.start + last) ballot
+          → step_up r (Some ballot) ≡ lead_on r w trigger (r.sc.start + last) ballot
       unfolding step_up
       step_on q g e =
           rw (e, filled_in_lem null_slot r.window (trigger - r.sc.start + 1) (omega arith), g, last_open_in_lem r.window f.within, place_is, le-ltb (r.sc.start + first_open r.window) r.sc.exec_bar (omega (arith, found)), lt-leb 64 (first_open r.window) (omega (arith, place_is)), found)

@@ -11,11 +11,11 @@ use Rattle.tally.specs.declared.Reads.{Reads}
 use Rattle.tally.specs.Open.{no_reads, fit_reads}
 use Rattle.decide.specs.Bars.{unknown_bars}
 use Rattle.decide.specs.Scalars.{may_be, fit_scalars}
+use Rattle.decide.specs.NumberWays.{scalars_len}
 use Rattle.window.specs.declared.Window.{Window}
-use Rattle.window.specs.declared.Survey.{Survey}
 use Rattle.window.specs.Window.{no_slots, fit_slots, first_open}
 use Rattle.window.specs.Summary.{walk}
-use Rattle.window.specs.Kept.{surveyed}
+use Rattle.window.specs.Kept.{Survey, surveyed}
 use Rattle.window.specs.KeptLaws.{surveyed_fit, surveyed_first, surveyed_accepting}
 use Rattle.replica.specs.declared.Replica.{Replica}
 use Rattle.replica.specs.Record.{fresh_scalars, fresh, zero_replica, new_replica}
@@ -82,6 +82,30 @@ module _ (r : Replica) {s : Survey} (e : s ≡ surveyed r.sc.group (r.sc.commit_
 
     pub seen_accepting : s.accepting ≡ (walk r.sc r.window).accepting
     seen_accepting = ap (λ (x : Survey). x.accepting) e ∙ surveyed_accepting r.sc.group (r.sc.commit_bar - r.sc.start) r.window l f
+
+-- what the first tests know once the numbers and the slots are fit
+pub record Surveyed (r : Replica) (s : Survey) : Type 0 where
+  pub numbers : fit_scalars r.sc r.window.len ≡ true
+  pub short : r.window.len ≤ 64
+  pub slots : fit_slots r.sc.group r.window ≡ true
+  pub place : s.first ≡ first_open r.window
+  pub first : r.sc.start + s.first ≡ (walk r.sc r.window).first
+  pub accepting : s.accepting ≡ (walk r.sc r.window).accepting
+
+pub surveyed_facts : (r : Replica) {b : Bool} {s : Survey} → b ≡ fit_scalars r.sc r.window.len → not b ≡ false
+    → s ≡ surveyed r.sc.group (r.sc.commit_bar - r.sc.start) r.window → not s.fit ≡ false → Surveyed r s
+surveyed_facts r n t e h =
+    let numbers = granted n t in
+    let short = scalars_len r.sc r.window.len numbers in
+    let slots = seen_fit r e short h in
+    record {
+      numbers = numbers;
+      short = short;
+      slots = slots;
+      place = seen_place r e short slots;
+      first = seen_first r e short slots;
+      accepting = seen_accepting r e short slots;
+    }
 
 -- the summary's test, by its two numbers, as the one pass found them
 module _ (r : Replica) {first : ℕ} (f : first ≡ (walk r.sc r.window).first) where

@@ -2,8 +2,8 @@
 use Rattle.std.specs.Prelude.{not, [], ◌∷◌, ◌++◌, ℕ, ◌+◌, ltb, leb, eqb}
 use Rattle.base.specs.Pick.{pick}
 use Rattle.base.specs.Gather.{gather}
-use Rattle.members.specs.declared.NextBallot.{NextBallot}
-use Rattle.members.specs.declared.NextBallot.TheVariants.{Ballot, Spent}
+use Rattle.std.specs.declared.option.Option.{Option}
+use Rattle.std.specs.declared.option.Option.TheVariants.{None, Some}
 use Rattle.members.specs.Ballots.{owns, next_ballot, next_answer}
 use Rattle.actions.specs.declared.Action.TheVariants.{Prepare, Heartbeat, StatusUp}
 use Rattle.actions.specs.Actions.{bare}
@@ -40,9 +40,9 @@ lead_on r w trigger endprep ballot =
     }
 
 -- 8: no ballot left, then "first uncommitted slot below exec_bar"; "With no uncommitted slot it appends one null slot" (5)
-unfoldable pub step_up : Replica → NextBallot → Outcome
-step_up r Spent = kept (next_answer Spent) r
-step_up r (Ballot b) =
+unfoldable pub step_up : Replica → Option ℕ → Outcome
+step_up r None = kept (next_answer None) r
+step_up r (Some b) =
     let first : ℕ = first_open r.window in
     let last : ℕ = last_open r.window in
     pick (ltb (number r.sc first) r.sc.exec_bar) (kept 8 r)

@@ -1,3 +1,5 @@
+pub mod Seen
+pub mod SeenLaws
 pub mod Record
 pub mod Fit
 pub mod Messages

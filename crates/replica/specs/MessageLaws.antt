@@ -9,7 +9,7 @@ use Rattle.base.specs.Pick.{pick, pick_cases, larger, larger_left, larger_right,
 use Rattle.base.specs.Gather.{gather}
 use Rattle.base.specs.Find.{any}
 use Rattle.batch.specs.declared.Batch.{Batch}
-use Rattle.batch.specs.declared.Made.{Made}
+use Rattle.batch.specs.Batches.{Made}
 use Rattle.batch.specs.Batches.{is_batch, make_batch}
 use Rattle.actions.specs.declared.Action.TheVariants.{StatusDown}
 use Rattle.actions.specs.Actions.{Act, bare, put_act}
@@ -17,7 +17,7 @@ use Rattle.actions.specs.Laws.{write_none, write_then, put_in}
 use Rattle.slots.specs.declared.ReplicaBook.{ReplicaBook}
 use Rattle.slots.specs.Slots.{prepared_slot, null_slot}
 use Rattle.decide.specs.declared.Scalars.{Scalars}
-use Rattle.decide.specs.declared.Decided.{Decided}
+use Rattle.decide.specs.Decide.{Decided}
 use Rattle.decide.specs.Scalars.{strict, followed, steps_down}
 use Rattle.decide.specs.Decide.{decide_accept, decide_accept_reply}
 use Rattle.decide.specs.Laws.{Steady, Steady-followed, Settles-accept, Settles-reply}

@@ -12,7 +12,7 @@ use Rattle.slots.specs.declared.ReplicaBook.{ReplicaBook}
 use Rattle.slots.specs.declared.Slot.{Slot}
 use Rattle.slots.specs.Slots.{new_book, prepared_slot, appended_slot, noted_slot, entered_slot}
 use Rattle.decide.specs.declared.Scalars.{Scalars}
-use Rattle.decide.specs.declared.Decided.{Decided}
+use Rattle.decide.specs.Decide.{Decided}
 use Rattle.decide.specs.declared.Reply.{Reply}
 use Rattle.decide.specs.Scalars.{leads, is_peer, strict, followed, steps_down}
 use Rattle.decide.specs.Bars.{with_bar, with_fallen}

@@ -5,8 +5,8 @@ use Rattle.base.specs.Gather.{gather}
 use Rattle.tally.specs.declared.Tally.{Tally}
 use Rattle.tally.specs.declared.Read.{Read}
 use Rattle.tally.specs.declared.Reads.{Reads}
-use Rattle.tally.specs.declared.Opened.{Opened}
-use Rattle.tally.specs.declared.Replied.{Replied}
+use Rattle.tally.specs.Open.{Opened}
+use Rattle.tally.specs.Open.{Replied}
 use Rattle.tally.specs.Merge.{best_at, answer_of}
 use Rattle.tally.specs.Open.{no_read, find_read, open_read, close_read, put_read, reply_to, stays_open}
 use Rattle.actions.specs.declared.Action.TheVariants.{ReadAnswer}

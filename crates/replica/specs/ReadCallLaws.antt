@@ -1,5 +1,5 @@
 -- The laws of the read calls: the loop that writes a closed read's answers, and each way through a call.
-use Rattle.std.specs.Prelude.{◌≡◌, Bool, true, false, not, List, [], ◌∷◌, ℕ, ◌+◌, ◌≤◌, ◌<◌, ltb, leb, eqb, get_or}
+use Rattle.std.specs.Prelude.{◌≡◌, Bool, true, false, not, List, [], ◌∷◌, ℕ, ◌+◌, ◌≤◌, ◌<◌, ltb, leb, eqb, get_or, Some, None, Ok, Err}
 use Rattle.std.proofs.Math.Path.{refl}
 use Rattle.std.proofs.Common.{sym, ap, ◌∙◌, zero-add, arith, length-append, lt-ltb, le-ltb, le-leb, leb-true}
 use Rattle.std.proofs.lemmas.Bool.{lt-leb}
@@ -9,10 +9,10 @@ use Rattle.tally.specs.declared.ReadAnswer.{ReadAnswer}
 use Rattle.tally.specs.declared.Tally.{Tally}
 use Rattle.tally.specs.declared.Read.{Read}
 use Rattle.tally.specs.declared.Reads.{Reads}
-use Rattle.tally.specs.declared.Opened.{Opened}
-use Rattle.tally.specs.declared.Replied.{Replied}
-use Rattle.tally.specs.Merge.{best_at, answer_of}
-use Rattle.tally.specs.Open.{no_read, find_read, open_read, close_read, put_read, reply_to, fit_reads, stays_open}
+use Rattle.tally.specs.declared.MergeError.{MergeError}
+use Rattle.tally.specs.declared.MergeError.TheVariants.{HeldTooLong, ReplyTooLong, UnequalLengths, Conflict}
+use Rattle.tally.specs.Merge.{error_number, best_at, answer_of}
+use Rattle.tally.specs.Open.{Opened, Replied, reply_as, no_read, find_read, open_read, close_read, put_read, reply_to, fit_reads, stays_open}
 use Rattle.tally.proofs.Laws.{reply_few}
 use Rattle.tally.specs.ReadLaws.{read_fits}
 use Rattle.actions.specs.declared.Action.TheVariants.{ReadAnswer as answered}
@@ -77,6 +77,24 @@ module _ (r : Replica) (i : ℕ) (d : Replied) where
   replied_summed s =
       pick_both (λ (o : Outcome). summed o ≡ o) d.closes (summed_at _ s)
       (pick_both (λ (o : Outcome). summed o ≡ o) (stays_open d.answer) (summed_at _ s) (summed_at _ s))
+
+-- the same, by the code's outcome
+module _ (r : Replica) (i : ℕ) (read : Read) where
+  pub reply_closes : {room after : List ℕ} {rs : Reads} (answers : ℕ) → Answers r.sc.leader read answers room after → rs ≡ close_read r.reads i → Summed r
+      → Told (summed (replied_step r i (reply_as (Ok (Some answers)) read))) (record { answer = 0; count = answers; replica = with_reads r rs }) room after
+  reply_closes answers a f s = replied_closes r i (reply_as (Ok (Some answers)) read) refl a f s
+
+  pub reply_waits : {rs : Reads} → rs ≡ put_read r.reads i read → replied_step r i (reply_as (Ok None) read) ≡ kept 0 (with_reads r rs)
+  reply_waits e = replied_stays r i (reply_as (Ok None) read) refl refl refl e
+
+  pub reply_clashes : {rs : Reads} → rs ≡ put_read r.reads i read → replied_step r i (reply_as (Err Conflict) read) ≡ kept 12 (with_reads r rs)
+  reply_clashes e = replied_stays r i (reply_as (Err Conflict) read) refl refl refl e
+
+  pub reply_refused : (e : MergeError) → (e ≡ Conflict → ⊥) → replied_step r i (reply_as (Err e) read) ≡ kept (error_number e) r
+  reply_refused HeldTooLong h = replied_refused r i (reply_as (Err HeldTooLong) read) refl refl refl
+  reply_refused ReplyTooLong h = replied_refused r i (reply_as (Err ReplyTooLong) read) refl refl refl
+  reply_refused UnequalLengths h = replied_refused r i (reply_as (Err UnequalLengths) read) refl refl refl
+  reply_refused Conflict h = absurd (h refl)
 
 -- ── a read opens ──
 module _ (r : Replica) (room id count : ℕ) (keys : List ℕ) where

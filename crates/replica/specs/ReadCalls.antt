@@ -2,7 +2,7 @@
 use Rattle.std.specs.Prelude.{◌≡◌, List, [], ◌∷◌, ℕ, ◌≤◌, ◌<◌, length}
 use Rattle.base.specs.Gather.{gather}
 use Rattle.tally.specs.declared.Read.{Read}
-use Rattle.tally.specs.declared.Replied.{Replied}
+use Rattle.tally.specs.Open.{Replied}
 use Rattle.actions.specs.Actions.{Act, write_at}
 use Rattle.window.specs.SummaryLaws.{Sums}
 use Rattle.replica.specs.declared.Replica.{Replica}

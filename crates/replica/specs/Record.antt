@@ -6,14 +6,14 @@ use Rattle.batch.specs.Keys.{empty_table, refresh, overfull}
 use Rattle.tally.specs.Open.{no_reads}
 use Rattle.actions.specs.Actions.{Act, says_acts}
 use Rattle.decide.specs.declared.Scalars.{Scalars}
-use Rattle.decide.specs.declared.Decided.{Decided}
+use Rattle.decide.specs.Decide.{Decided}
 use Rattle.decide.specs.Scalars.{nobody, unknown_bar, may_be}
 use Rattle.decide.specs.Bars.{unknown_bars}
 use Rattle.window.specs.declared.Window.{Window}
 use Rattle.window.specs.Window.{put_slot, no_slots}
 use Rattle.window.specs.Summary.{walk}
 use Rattle.replica.specs.declared.Replica.{Replica}
-use Rattle.replica.specs.declared.Made.{Made}
+use Rattle.replica.specs.Seen.{Made}
 
 -- 01: "Window of 64 slots from start_slot". The place of slot s in the window, and the slot at a place
 abbrev pub place : Scalars → ℕ → ℕ

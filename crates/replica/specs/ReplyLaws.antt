@@ -1,17 +1,18 @@
 -- The laws of a PrepareReply: what is weighed before anything is written is what the definition does.
 use Rattle.std.specs.Prelude.{◌≡◌, Bool, true, false, not, ◌&&◌, List, ◌++◌, ℕ, ◌+◌, ◌-◌, ◌≤◌, ◌<◌, ltb, leb, eqb, length}
 use Rattle.std.proofs.Math.Path.{refl, ap}
-use Rattle.std.proofs.Common.{sym, ◌∙◌, append-nil, add-zero, arith, length-append, get_or-set_same, get_or-set_other}
+use Rattle.std.proofs.Common.{inl, inr, sym, ◌∙◌, append-nil, add-zero, arith, length-append, get_or-set_same, get_or-set_other}
 use Rattle.std.proofs.lemmas.List.{set-get_or}
 use borrow.Author.Tests.{not-true, not-false, lt-ltb, le-ltb, le-leb, lt-leb, eq-eqb, ne_eqb, eqb-true, eqb-false}
-use Rattle.base.specs.Pick.{pick, pick_both, pick_cases, larger, larger_left}
+use Rattle.base.specs.Pick.{clash, pick, pick_both, pick_cases, larger, larger_left}
 use Rattle.base.specs.HowMany.{how_many_none, how_many_few}
 use Rattle.base.specs.Over.{over_self}
 use Rattle.base.specs.Gather.{gather, gather_self}
 use Rattle.batch.specs.declared.Batch.{Batch}
-use Rattle.batch.specs.declared.Made.{Made}
 use Rattle.batch.specs.declared.KeyTable.{KeyTable}
-use Rattle.batch.specs.Batches.{is_batch, make_batch}
+use Rattle.std.specs.Prelude.{Option, Some, None, is_some, ◌⊎◌}
+use Rattle.std.specs.Option.{unwrap_or}
+use Rattle.batch.specs.Batches.{Made, made, empty_batch, is_batch, make_batch}
 use Rattle.batch.specs.Keys.{refresh, overfull}
 use Rattle.actions.specs.Actions.{Act}
 use Rattle.actions.specs.Laws.{write_then, length_write}
@@ -20,9 +21,9 @@ use Rattle.slots.specs.declared.Slot.{Slot}
 use Rattle.slots.specs.Slots.{no_slot, new_book, appended_slot, noted_slot, entered_slot}
 use Rattle.decide.specs.declared.Scalars.{Scalars}
 use Rattle.decide.specs.declared.PeerBars.{PeerBars}
-use Rattle.decide.specs.declared.Decided.{Decided}
+use Rattle.decide.specs.Decide.{Decided}
 use Rattle.decide.specs.declared.Reply.{Reply}
-use Rattle.decide.specs.declared.Weighed.{Weighed}
+use Rattle.decide.specs.Weighing.{Weighed}
 use Rattle.decide.specs.Scalars.{leads, strict}
 use Rattle.decide.specs.Bars.{with_bar, with_fallen}
 use Rattle.decide.specs.Laws.{fallen_is, WeighedRemains, weighed_remains}
@@ -410,6 +411,21 @@ places_fit r room m f g h =
 made_answer : (b : Batch) → eqb (make_batch b.id b.count b.keys).answer 0 ≡ is_batch b.id b.count
 unfolding make_batch
 made_answer b = pick_cases (λ (x : Made). eqb x.answer 0 ≡ is_batch b.id b.count) (is_batch b.id b.count) (λ t. sym t) (λ t. sym t)
+
+-- the code's tests of the batch of a vote, which it makes or finds to be none
+pub vote_refused : (v : Bool) (o : Option Batch) → v ≡ true → is_some o ≡ false → true ≡ (v && not (eqb (made o).answer 0))
+vote_refused v None p q = rw p
+vote_refused v (Some b) p q = absurd (clash refl q)
+
+pub vote_passed : (v : Bool) (o : Option Batch) → (v ≡ false) ⊎ (is_some o ≡ true) → false ≡ (v && not (eqb (made o).answer 0))
+vote_passed v None (inl p) = rw p
+vote_passed v None (inr q) = absurd (clash q refl)
+vote_passed true (Some b) p = refl
+vote_passed false (Some b) p = refl
+
+pub made_or : (o : Option Batch) (none : Batch) → none ≡ empty_batch → unwrap_or o none ≡ (made o).batch
+made_or None none e = e
+made_or (Some b) none e = refl
 
 module _ (r : Replica) (room peer : ℕ) (m : Reply) where
   abbrev pub reply_tested : Outcome

@@ -8,7 +8,7 @@ use Rattle.slots.specs.Slots.{entered_slot}
 use Rattle.decide.specs.Scalars.{strict}
 use Rattle.decide.specs.declared.PeerBars.{PeerBars}
 use Rattle.decide.specs.declared.Reply.{Reply}
-use Rattle.decide.specs.declared.Weighed.{Weighed}
+use Rattle.decide.specs.Weighing.{Weighed}
 use Rattle.window.specs.declared.Window.{Window}
 use Rattle.window.specs.Window.{slot_at, put_slot, sweep}
 use Rattle.window.specs.Acts.{enter_acts}

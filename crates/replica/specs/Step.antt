@@ -7,7 +7,7 @@ use Rattle.actions.specs.declared.Action.TheVariants.{PrepareBal, AcceptData, Co
 use Rattle.actions.specs.Actions.{Act, write_actions}
 use Rattle.decide.specs.declared.Reply.{Reply}
 use Rattle.replica.specs.declared.Replica.{Replica}
-use Rattle.replica.specs.declared.Handled.{Handled}
+use Rattle.replica.specs.Seen.{Handled}
 use Rattle.replica.specs.declared.Done.{Done}
 use Rattle.replica.specs.Record.{Outcome, summed}
 use Rattle.replica.specs.Messages.{prepare_step, prepare_reply_step, accept_step, accept_reply_step}

@@ -10,7 +10,7 @@ use Rattle.slots.specs.Slots.{fit_slot}
 use Rattle.decide.specs.Scalars.{fit_scalars}
 use Rattle.window.specs.Window.{fit_slots, first_open, last_used, filled}
 use Rattle.replica.specs.declared.Replica.{Replica}
-use Rattle.replica.specs.declared.Handled.{Handled}
+use Rattle.replica.specs.Seen.{Handled}
 use Rattle.replica.specs.Record.{Outcome, kept, new_replica}
 use Rattle.replica.specs.Fit.{fit}
 use Rattle.replica.specs.Messages.{prepare_on, prepare_step}

@@ -3,15 +3,19 @@ ghost use Rattle.std.specs.Prelude.{◌≡◌, [], ◌<◌, length};
 ghost use Rattle.base.specs.Pick.{pick};
 ghost use Rattle.window.specs.Window.{slot_at};
 ghost use Rattle.window.specs.Sweeps.{TwoFit};
+ghost use Rattle.replica.specs.Seen.{seen};
 ghost use Rattle.replica.specs.Record.{summed};
 ghost use Rattle.replica.specs.Durability.{notice_acts, prepared_done, moved_accept, accepted_done, pass_on, committed_done, done_on, logged_on};
 ghost use Rattle.replica.specs.Step.{call_logged, step, Told};
 ghost use Rattle.replica.specs.CompletionFits.{BarsFit, CommitFits, DoneFits, PassFits, Wrote};
 
-use super::{Done, Entry, Handled, Replica};
+use super::{Done, Entry, Handled, Refusal, Replica};
 use actions::{Action, Notice, put_action};
 use decide::Scalars;
+use slots::{ACCEPTING, COMMITTED};
 
+// Kept: each demand of a private function is one record already (`DoneFits`, `PassFits` ..); room and place stay two, "action records in a lent buffer of
+// numbers" (01).
 // The CommitNotice, at the room's n-th place, where commit_bar moved. The place of the next action.
 fn put_notice(room: &mut [u64], n: usize, still: bool, sc: Scalars, bar: u64, end: u64) -> usize
     requires { TwoFit n room.old }
@@ -25,7 +29,7 @@ fn put_notice(room: &mut [u64], n: usize, still: bool, sc: Scalars, bar: u64, en
     }
     let notice = Action::CommitNotice(Notice {
         ballot: sc.bal_max_seen,
-        bar: bar,
+        bar,
     });
     put_action(room, n, notice, [0u64; 8]);
     n + 1
@@ -34,31 +38,29 @@ fn put_notice(room: &mut [u64], n: usize, still: bool, sc: Scalars, bar: u64, en
 impl Replica {
     // A log completion.
     pub fn logged(self, room: &mut [u64], done: Done) -> Handled
-        ensures { Told (step self (length room.old) (call_logged done)) result room.old room.new }
+        ensures { Told (step self (length room.old) (call_logged done)) (seen result) room.old room.new }
     {
-        let first = self.test_ready(room.len());
-        if first != 0 {
-            return self.kept(first);
+        if let Err(refusal) = self.test_ready(room.len()) {
+            return self.refused(refusal);
         }
         let sc = self.sc;
         if done.slot < sc.start {
-            return self.kept(0);
+            return self.ignored();
         }
         let end = sc.start + self.window.len as u64;
         if end <= done.slot {
-            return self.kept(4);
+            return self.refused(Refusal::PastEnd);
         }
         if done.size < sc.wal_offset {
-            return self.kept(6);
+            return self.refused(Refusal::Contradiction);
         }
         let i = (done.slot - sc.start) as usize;
         let r = self.logged_on(i, done.size);
-        let entry = done.entry;
-        let h = r.done_on(room, i, done.slot, done.ballot, entry);
-        if h.answer != 0 {
-            return self.kept(h.answer);
+        let h = r.done_on(room, i, done.slot, done.ballot, done.entry);
+        match h.outcome {
+            Ok(_) => h,
+            Err(refusal) => self.refused(refusal),
         }
-        h
     }
 
     // The slot's first offset in the log, then the size of the log.
@@ -67,20 +69,15 @@ impl Replica {
         ensures { result ≡ logged_on self i size }
     {
         let sc = self.sc;
-        let mut w = self.window;
-        let s = w.slots[i];
-        let t = s.logged(sc.wal_offset);
-        w.slots[i] = t;
-        self.window = w;
-        let after = sc.with_offset(size);
-        self.sc = after;
+        self.window.slots[i] = self.window.slots[i].logged(sc.wal_offset);
+        self.sc = sc.with_offset(size);
         self
     }
 
     // The entry's handler, for the slot at place i.
     fn done_on(self, room: &mut [u64], i: usize, slot: u64, ballot: u64, entry: Entry) -> Handled
         requires { DoneFits self i slot room.old }
-        ensures { Told (summed (done_on self i slot ballot entry)) result room.old room.new }
+        ensures { Told (summed (done_on self i slot ballot entry)) (seen result) room.old room.new }
     {
         match entry {
             Entry::PrepareBal => self.prepared_done(room, i, slot, ballot),
@@ -92,23 +89,23 @@ impl Replica {
     // A PrepareBal is logged: a leader answers itself for slots up to its endprep, a follower the source.
     fn prepared_done(self, room: &mut [u64], i: usize, slot: u64, ballot: u64) -> Handled
         requires { DoneFits self i slot room.old }
-        ensures { Told (summed (prepared_done self i slot ballot (slot_at self.window i))) result room.old room.new }
+        ensures { Told (summed (prepared_done self i slot ballot (slot_at self.window i))) (seen result) room.old room.new }
     {
         let sc = self.sc;
         let w = self.window;
         let s = w.slots[i];
         if sc.is_stale(s, ballot, false) {
-            return self.kept(0);
+            return self.ignored();
         }
         if sc.leader != sc.id {
             let d = sc.decide_promised(s, slot);
-            return self.settle(room, w, i, slot, d);
+            return self.settle(room, w, i, slot, Ok(d));
         }
         if !s.leader.present {
-            return self.kept(0);
+            return self.ignored();
         }
         if s.leader.endprep < slot {
-            return self.kept(0);
+            return self.ignored();
         }
         let m = sc.own_reply(s, slot);
         self.reply_on(room, sc.id, m)
@@ -117,22 +114,19 @@ impl Replica {
     // An AcceptData is logged: a vote, told to the leader or counted by it, and accept_bar moves.
     fn accepted_done(self, room: &mut [u64], i: usize, slot: u64, ballot: u64) -> Handled
         requires { DoneFits self i slot room.old }
-        ensures { Told (summed (accepted_done self i slot ballot (slot_at self.window i))) result room.old room.new }
+        ensures { Told (summed (accepted_done self i slot ballot (slot_at self.window i))) (seen result) room.old room.new }
     {
         let sc = self.sc;
         let w = self.window;
         let s = w.slots[i];
         let d = sc.decide_accepted(s, slot, ballot);
         let h = self.settle(room, w, i, slot, d);
-        if h.answer != 0 {
+        let Ok(count) = h.outcome else {
             return h;
-        }
-        let r = h.replica;
-        let moved = r.moved_accept(slot);
+        };
         Handled {
-            answer: 0,
-            count: h.count,
-            replica: moved,
+            outcome: Ok(count),
+            replica: h.replica.moved_accept(slot),
         }
     }
 
@@ -147,33 +141,32 @@ impl Replica {
         }
         let w = self.window;
         let from = (sc.accept_bar - sc.start) as usize;
-        let stop = w.stop(from, w.len, 0, 2);
+        let stop = w.stop(from, w.len, 0, ACCEPTING);
         let bar = sc.start + stop as u64;
-        let after = sc.with_bars(bar, sc.commit_bar, sc.exec_bar);
-        self.sc = after;
+        self.sc = sc.with_bars(bar, sc.commit_bar, sc.exec_bar);
         self
     }
 
     // A CommitSlot is logged: commit_bar moves to the first slot below Committed, where the slot logged stands at it.
     fn committed_done(self, room: &mut [u64], slot: u64) -> Handled
         requires { CommitFits self room.old }
-        ensures { Told (summed (committed_done self slot)) result room.old room.new }
+        ensures { Told (summed (committed_done self slot)) (seen result) room.old room.new }
     {
         let sc = self.sc;
         if slot != sc.commit_bar {
-            return self.kept(0);
+            return self.ignored();
         }
         let w = self.window;
         let from = (sc.commit_bar - sc.start) as usize;
         let to = (sc.accept_bar - sc.start) as usize;
-        let stop = w.stop(from, to, 0, 3);
+        let stop = w.stop(from, to, 0, COMMITTED);
         self.pass_on(room, from, stop)
     }
 
     // commit_bar walks from one place to another: the slots it passes, then the notice.
     fn pass_on(mut self, room: &mut [u64], from: usize, stop: usize) -> Handled
         requires { PassFits self from stop room.old }
-        ensures { Told (summed (pass_on self from stop)) result room.old room.new }
+        ensures { Told (summed (pass_on self from stop)) (seen result) room.old room.new }
     {
         let sc = self.sc;
         let w = self.window;
@@ -181,13 +174,10 @@ impl Replica {
         let end = sc.start + w.len as u64;
         let p = w.pass_range(room, 0, from, stop, sc.start);
         let n = put_notice(room, p.next, from == stop, sc, bar, end);
-        let passed = p.window;
-        self.window = passed;
-        let after = sc.with_bars(sc.accept_bar, bar, sc.exec_bar);
-        self.sc = after;
+        self.window = p.window;
+        self.sc = sc.with_bars(sc.accept_bar, bar, sc.exec_bar);
         Handled {
-            answer: 0,
-            count: n,
+            outcome: Ok(n),
             replica: self,
         }
     }

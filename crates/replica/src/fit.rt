@@ -1,18 +1,20 @@
 // A new replica, the first tests (answers 1 and 14), and what every call is tested for first.
 ghost use Rattle.std.specs.Prelude.{◌≡◌};
 ghost use Rattle.replica.specs.Record.{new_replica};
+ghost use Rattle.replica.specs.Seen.{answer_number, seen_new};
 ghost use Rattle.replica.specs.Admit.{ready_answer, from_member, from_peer, from_owner};
 
-use super::{Handled, Made, Replica};
-use batch::empty_table;
-use decide::{PeerBars, Scalars, may_be};
+use super::{Handled, Made, Refusal, Replica};
+use actions::ROOM;
+use batch::{TABLE, empty_table};
+use decide::{NOBODY, PeerBars, Scalars, UNKNOWN_BAR, may_be};
 use tally::open_reads::no_reads;
 use window::{Summary, no_slots};
 
 impl Replica {
-    // A new replica: answer 10 and the all-zero record where its numbers are outside 01's.
+    // A new replica: refused, with the all-zero record, where its numbers are outside 01's.
     pub fn new(id: u64, group: u64, start: u64, options: u64) -> Made
-        ensures { result ≡ new_replica id group start options }
+        ensures { seen_new result ≡ new_replica id group start options }
     {
         let window = no_slots();
         let keys = empty_table();
@@ -38,28 +40,28 @@ impl Replica {
                 own: false,
                 bars: [0; 9],
             };
-            let replica = Replica {
-                sc: sc,
-                bars: bars,
-                window: window,
-                keys: keys,
-                reads: reads,
-                summary: Summary {
-                    first: 0,
-                    accepting: 0,
-                },
+            let summary = Summary {
+                first: 0,
+                accepting: 0,
             };
             return Made {
-                answer: 10,
-                replica: replica,
+                outcome: Err(Refusal::Outside),
+                replica: Replica {
+                    sc,
+                    bars,
+                    window,
+                    keys,
+                    reads,
+                    summary,
+                },
             };
         }
         let sc = Scalars {
-            id: id,
-            group: group,
-            start: start,
-            options: options,
-            leader: 255,
+            id,
+            group,
+            start,
+            options,
+            leader: NOBODY,
             bal_prep_sent: 0,
             bal_prepared: 0,
             bal_max_seen: 0,
@@ -67,114 +69,112 @@ impl Replica {
             commit_bar: start,
             exec_bar: start,
             wal_offset: 0,
-            peer_accept_max: 18446744073709551615,
+            peer_accept_max: UNKNOWN_BAR,
             lead_trigger: 0,
         };
         let bars = PeerBars {
             own: false,
-            bars: [18446744073709551615; 9],
+            bars: [UNKNOWN_BAR; 9],
         };
-        let replica = Replica {
-            sc: sc,
-            bars: bars,
-            window: window,
-            keys: keys,
-            reads: reads,
-            summary: Summary {
-                first: start,
-                accepting: 0,
-            },
+        let summary = Summary {
+            first: start,
+            accepting: 0,
         };
         Made {
-            answer: 0,
-            replica: replica,
+            outcome: Ok(()),
+            replica: Replica {
+                sc,
+                bars,
+                window,
+                keys,
+                reads,
+                summary,
+            },
         }
     }
 
-    // 1 where the room is too short or the record unfit, 14 where the summary is not the walk's, or 0. The slots are walked once.
-    pub(crate) fn test_ready(self, room: usize) -> u64
-        ensures { result ≡ ready_answer self room }
+    // Unready where the room is too short or the record unfit, else WrongSummary where the summary is not the walk's. The slots are walked once.
+    pub(crate) fn test_ready(self, room: usize) -> Result<(), Refusal>
+        ensures { answer_number result ≡ ready_answer self room }
     {
-        if room < 3456 {
-            return 1;
+        // Kept: the numbers of a record are tested (`ready_answer` says 1 of every other), since a host may write any, and a narrower type asks more of it.
+        if room < ROOM {
+            return Err(Refusal::Unready);
         }
         let w = self.window;
         let sc = self.sc;
         if !sc.is_fit(w.len) {
-            return 1;
+            return Err(Refusal::Unready);
         }
         let from = (sc.commit_bar - sc.start) as usize;
-        let seen = w.survey(sc.group, from);
-        if !seen.fit {
-            return 1;
+        let Some(seen) = w.survey(sc.group, from) else {
+            return Err(Refusal::Unready);
+        };
+        if TABLE < self.keys.count {
+            return Err(Refusal::Unready);
         }
-        if 256 < self.keys.count {
-            return 1;
-        }
-        let reads = self.reads;
-        if !reads.is_fit(sc.group) {
-            return 1;
+        if !self.reads.is_fit(sc.group) {
+            return Err(Refusal::Unready);
         }
         let first = sc.start + seen.first as u64;
         if self.summary.first != first {
-            return 14;
+            return Err(Refusal::WrongSummary);
         }
         if self.summary.accepting != seen.accepting {
-            return 14;
+            return Err(Refusal::WrongSummary);
         }
-        0
+        Ok(())
     }
 
-    // 1, 14, 2 where the call comes from no member, or 0.
-    pub(crate) fn from_member(self, room: usize, member: u64) -> u64
-        ensures { result ≡ from_member self room member }
+    // The same, then NotAPeer where the call comes from no member.
+    pub(crate) fn from_member(self, room: usize, member: u64) -> Result<(), Refusal>
+        ensures { answer_number result ≡ from_member self room member }
     {
-        let first = self.test_ready(room);
-        if first != 0 {
-            return first;
-        }
+        self.test_ready(room)?;
         if self.sc.group <= member {
-            return 2;
+            return Err(Refusal::NotAPeer);
         }
-        0
+        Ok(())
     }
 
-    // 1, 14, 2 where the call comes from no other member, or 0.
-    pub(crate) fn from_peer(self, room: usize, peer: u64) -> u64
-        ensures { result ≡ from_peer self room peer }
+    // The same, NotAPeer also where the call comes from self.
+    pub(crate) fn from_peer(self, room: usize, peer: u64) -> Result<(), Refusal>
+        ensures { answer_number result ≡ from_peer self room peer }
     {
-        let first = self.test_ready(room);
-        if first != 0 {
-            return first;
+        self.test_ready(room)?;
+        if !self.sc.is_peer(peer) {
+            return Err(Refusal::NotAPeer);
         }
-        let sc = self.sc;
-        if !sc.is_peer(peer) {
-            return 2;
-        }
-        0
+        Ok(())
     }
 
-    // The same, 3 where the sender is not the ballot's owner, or 0.
-    pub(crate) fn from_owner(self, room: usize, peer: u64, ballot: u64) -> u64
-        ensures { result ≡ from_owner self room peer ballot }
+    // The same, then NotOwner where the sender is not the ballot's owner.
+    pub(crate) fn from_owner(self, room: usize, peer: u64, ballot: u64) -> Result<(), Refusal>
+        ensures { answer_number result ≡ from_owner self room peer ballot }
     {
-        let first = self.from_peer(room, peer);
-        if first != 0 {
-            return first;
-        }
+        self.from_peer(room, peer)?;
         if !members::is_owner(ballot, peer) {
-            return 3;
+            return Err(Refusal::NotOwner);
         }
-        0
+        Ok(())
     }
 
-    // Refused or ignored: an answer and no actions.
-    pub(crate) fn kept(self, answer: u64) -> Handled
-        ensures { result ≡ record { answer = answer; count = 0; replica = self } }
+    // Refused: no actions.
+    pub(crate) fn refused(self, refusal: Refusal) -> Handled
+        ensures { result ≡ record { outcome = Err refusal; replica = self } }
     {
         Handled {
-            answer: answer,
-            count: 0,
+            outcome: Err(refusal),
+            replica: self,
+        }
+    }
+
+    // Ignored, or done with no actions.
+    pub(crate) fn ignored(self) -> Handled
+        ensures { result ≡ record { outcome = Ok 0; replica = self } }
+    {
+        Handled {
+            outcome: Ok(0),
             replica: self,
         }
     }

@@ -7,6 +7,7 @@ mod elections;
 mod fit;
 mod messages;
 mod reads_calls;
+mod refusals;
 mod replies;
 mod settle;
 
@@ -25,23 +26,59 @@ pub struct Replica {
     pub summary: Summary,
 }
 
-// What a call hands back: its answer, how many actions the room has, and the replica after it.
+// Why a call is refused, by 01's numbers 1 to 12, and 13 to 15 of a trace record and of 02.
+#[derive(Clone, Copy, Debug, PartialEq, Eq)]
+pub enum Refusal {
+    // 1: the room is too short, or the record unfit
+    Unready,
+    // 2: the sender is not a member, or self where another has to send
+    NotAPeer,
+    // 3: the ballot's owner is not its sender
+    NotOwner,
+    // 4: the slot is at or past the log end, or a PrepareReply finds no leader
+    PastEnd,
+    // 5: a slot at start + 64 or later is needed
+    PastWindow,
+    // 6: an assertion, index or unwrap of the source would fail
+    Contradiction,
+    // 7: more new keys than the table has free
+    KeysFull,
+    // 8: the first uncommitted slot is below exec_bar, or no ballot is left
+    NoStepUp,
+    // 9: a batch is offered to a replica that is no prepared leader
+    NotLeading,
+    // 10: a new replica, read, list or batch with numbers outside 01's
+    Outside,
+    // 11: as many reads are open as may be
+    ReadsFull,
+    // 12: a read reply conflicts; what was merged before stays
+    Conflict,
+    // 13: a trace record is malformed
+    Malformed,
+    // 14: the summary is not the walk's
+    WrongSummary,
+    // 15: a strict Accept has another batch for a committed slot
+    Renamed,
+}
+
+// What a call hands back: how many actions the room has, or why it is refused; and the replica after it.
+// Kept: the replica stands beside the outcome, and the whole is no Result: "each call takes the replica by value and hands it back with its answer" (01).
 #[derive(Clone, Copy)]
 pub struct Handled {
-    pub answer: u64,
-    pub count: usize,
+    pub outcome: Result<usize, Refusal>,
     pub replica: Replica,
 }
 
-// A new replica: answer 0, or 10 and the all-zero record.
+// A new replica, or that its numbers are outside 01's (10).
+// Kept: the replica stands beside the outcome: "A refused new replica is the all-zero record, which is unfit" (01), which `new_replica` promises.
 #[derive(Clone, Copy)]
 pub struct Made {
-    pub answer: u64,
+    pub outcome: Result<(), Refusal>,
     pub replica: Replica,
 }
 
 // Which entry a log completion names.
-#[derive(Clone, Copy)]
+#[derive(Clone, Copy, Debug, PartialEq, Eq)]
 pub enum Entry {
     PrepareBal,
     AcceptData,
@@ -49,7 +86,7 @@ pub enum Entry {
 }
 
 // A log completion: the entry's kind, slot and ballot, and the size of the log with it.
-#[derive(Clone, Copy)]
+#[derive(Clone, Copy, Debug, PartialEq, Eq)]
 pub struct Done {
     pub entry: Entry,
     pub slot: u64,

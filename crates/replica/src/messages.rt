@@ -1,16 +1,17 @@
 // 000, messages.rs: Prepare, Accept, AcceptReply. PrepareReply has a file of its own.
 ghost use Rattle.std.specs.Prelude.{◌≤◌, length};
 ghost use Rattle.replica.specs.Record.{summed};
+ghost use Rattle.replica.specs.Seen.{seen};
 ghost use Rattle.replica.specs.Messages.{prepare_on};
 ghost use Rattle.replica.specs.Step.{call_prepare, call_accept, call_accept_reply, step, Told};
 ghost use Rattle.replica.specs.MessageFits.{WroteDown, PrepareFits};
 
-use super::{Handled, Replica};
+use super::{Handled, Refusal, Replica};
 use actions::{Action, put_action};
 use batch::{Batch, make};
 use decide::Scalars;
-use slots::ReplicaBook;
-use window::{Window, larger_of};
+use slots::{ACCEPTING, ReplicaBook};
+use window::{SLOTS, Window, larger_of};
 
 // check_leader: a leader that hears a larger ballot first reports that it is none. The place of the next action.
 fn put_down(room: &mut [u64], sc: Scalars, ballot: u64) -> usize
@@ -20,29 +21,27 @@ fn put_down(room: &mut [u64], sc: Scalars, ballot: u64) -> usize
     if !sc.steps_down(ballot) {
         return 0;
     }
-    let down = Action::StatusDown;
-    put_action(room, 0, down, [0u64; 8]);
+    put_action(room, 0, Action::StatusDown, [0u64; 8]);
     1
 }
 
 impl Replica {
     // A Prepare from a peer.
     pub fn prepare(self, room: &mut [u64], peer: u64, trigger: u64, ballot: u64) -> Handled
-        ensures { Told (step self (length room.old) (call_prepare peer trigger ballot)) result room.old room.new }
+        ensures { Told (step self (length room.old) (call_prepare peer trigger ballot)) (seen result) room.old room.new }
     {
-        let first = self.from_owner(room.len(), peer, ballot);
-        if first != 0 {
-            return self.kept(first);
+        if let Err(refusal) = self.from_owner(room.len(), peer, ballot) {
+            return self.refused(refusal);
         }
         let sc = self.sc;
         if trigger < sc.start {
-            return self.kept(0);
+            return self.ignored();
         }
         if ballot < sc.bal_max_seen {
-            return self.kept(0);
+            return self.ignored();
         }
-        if sc.start + 64 <= trigger {
-            return self.kept(5);
+        if sc.start + SLOTS as u64 <= trigger {
+            return self.refused(Refusal::PastWindow);
         }
         let from = (trigger - sc.start) as usize;
         let old = self.window;
@@ -60,13 +59,13 @@ impl Replica {
         ballot: u64,
     ) -> Handled
         requires { PrepareFits self w from room.old }
-        ensures { Told (summed (prepare_on self w from peer ballot)) result room.old room.new }
+        ensures { Told (summed (prepare_on self w from peer ballot)) (seen result) room.old room.new }
     {
         let last = w.last_used();
         let top = larger_of(from, last);
         let end = top + 1;
         if w.any_above(from, end, ballot) {
-            return self.kept(6);
+            return self.refused(Refusal::Contradiction);
         }
         let sc = self.sc;
         let trigger = sc.start + from as u64;
@@ -74,24 +73,19 @@ impl Replica {
         let book = ReplicaBook {
             present: true,
             source: peer,
-            trigger: trigger,
-            endprep: endprep,
+            trigger,
+            endprep,
         };
         let k = put_down(room, sc, ballot);
         let strict = sc.strict();
         let p = w.prepare_range(room, k, from, end, sc.start, strict, ballot, book);
-        let next = p.window;
-        self.window = next;
-        let followed = sc.followed(peer, ballot);
-        self.sc = followed;
+        self.window = p.window;
+        self.sc = sc.followed(peer, ballot);
         let bar = (sc.commit_bar - sc.start) as usize;
-        let below = w.count_at(2, bar, from);
-        let known = self.summary;
-        let sum = known.prepared_from(strict, trigger, below);
-        self.summary = sum;
+        let below = w.count_at(ACCEPTING, bar, from);
+        self.summary = self.summary.prepared_from(strict, trigger, below);
         Handled {
-            answer: 0,
-            count: p.next,
+            outcome: Ok(p.next),
             replica: self,
         }
     }
@@ -105,55 +99,50 @@ impl Replica {
         ballot: u64,
         batch: Batch,
     ) -> Handled
-        ensures { Told (step self (length room.old) (call_accept peer slot ballot batch)) result room.old room.new }
+        ensures { Told (step self (length room.old) (call_accept peer slot ballot batch)) (seen result) room.old room.new }
     {
-        let first = self.from_owner(room.len(), peer, ballot);
-        if first != 0 {
-            return self.kept(first);
+        if let Err(refusal) = self.from_owner(room.len(), peer, ballot) {
+            return self.refused(refusal);
         }
-        let keys = batch.keys;
-        let made = make(batch.id, batch.count, keys);
-        if made.answer != 0 {
-            return self.kept(10);
-        }
+        let Some(clean) = make(batch.id, batch.count, batch.keys) else {
+            return self.refused(Refusal::Outside);
+        };
         let sc = self.sc;
         if slot < sc.start {
-            return self.kept(0);
+            return self.ignored();
         }
         if ballot < sc.bal_max_seen {
-            return self.kept(0);
+            return self.ignored();
         }
-        if sc.start + 64 <= slot {
-            return self.kept(5);
+        if sc.start + SLOTS as u64 <= slot {
+            return self.refused(Refusal::PastWindow);
         }
         let i = (slot - sc.start) as usize;
         let old = self.window;
         let w = old.grow_to(i + 1);
         let s = w.slots[i];
-        let clean = made.batch;
         let d = sc.decide_accept(s, peer, slot, ballot, clean);
         self.settle(room, w, i, slot, d)
     }
 
     // An AcceptReply from a peer.
     pub fn accept_reply(self, room: &mut [u64], peer: u64, slot: u64, ballot: u64) -> Handled
-        ensures { Told (step self (length room.old) (call_accept_reply peer slot ballot)) result room.old room.new }
+        ensures { Told (step self (length room.old) (call_accept_reply peer slot ballot)) (seen result) room.old room.new }
     {
-        let first = self.from_peer(room.len(), peer);
-        if first != 0 {
-            return self.kept(first);
+        if let Err(refusal) = self.from_peer(room.len(), peer) {
+            return self.refused(refusal);
         }
         let sc = self.sc;
         if slot < sc.start {
-            return self.kept(0);
+            return self.ignored();
         }
         if ballot != sc.bal_prepared {
-            return self.kept(0);
+            return self.ignored();
         }
         let w = self.window;
         let end = sc.start + w.len as u64;
         if end <= slot {
-            return self.kept(4);
+            return self.refused(Refusal::PastEnd);
         }
         let i = (slot - sc.start) as usize;
         let s = w.slots[i];

@@ -1,11 +1,15 @@
 // What was decided for one slot, carried out: the key table's 7 and refresh, the actions, the slot, the scalars and the summary.
+ghost use Rattle.decide.specs.Decide.{decided};
+ghost use Rattle.window.specs.Window.{slot_at};
 ghost use Rattle.replica.specs.Record.{settled, summed};
+ghost use Rattle.replica.specs.Seen.{seen};
 ghost use Rattle.replica.specs.Step.{Told};
 ghost use Rattle.replica.specs.Acting.{SettleFits};
 
-use super::{Handled, Replica};
+use super::{Handled, Refusal, Replica};
 use actions::say;
 use decide::Decided;
+use slots::COMMITTED;
 use window::{Summary, Window};
 
 impl Replica {
@@ -16,50 +20,41 @@ impl Replica {
         mut w: Window,
         i: usize,
         slot: u64,
-        d: Decided,
+        decision: Result<Decided, decide::Refusal>,
     ) -> Handled
-        requires { SettleFits self w i slot d room.old }
-        ensures { Told (summed (settled self w i slot d)) result room.old room.new }
+        requires { SettleFits self w i slot (decided self.sc (slot_at w i) decision) room.old }
+        ensures { Told (summed (settled self w i slot (decided self.sc (slot_at w i) decision))) (seen result) room.old room.new }
     {
-        if d.answer != 0 {
-            return self.kept(d.answer);
-        }
+        let d = match decision {
+            Ok(d) => d,
+            Err(refusal) => return self.refused(Refusal::from(refusal)),
+        };
         let s = d.slot;
-        let batch = s.batch;
         let old = self.keys;
-        if old.too_many(d.noted, batch) {
-            return self.kept(7);
+        if old.too_many(d.noted, s.batch) {
+            return self.refused(Refusal::KeysFull);
         }
-        let words = d.says;
-        let keys = d.keys;
-        let n = say(room, 0, words, keys);
+        let n = say(room, 0, d.says, d.keys);
         let before = w.slots[i];
         w.slots[i] = s;
         self.window = w;
         let sc = d.sc;
         self.sc = sc;
-        let table = old.note_if(d.noted, slot, batch);
-        self.keys = table;
+        self.keys = old.note_if(d.noted, slot, s.batch);
         let known = self.summary;
         let sum = known.changed(sc.commit_bar, slot, before.status, s.status);
         self.summary = sum;
         if !known.is_passed(slot, s.status) {
             return Handled {
-                answer: 0,
-                count: n,
+                outcome: Ok(n),
                 replica: self,
             };
         }
-        let open = w.stop(i, w.len, 0, 3);
+        let open = w.stop(i, w.len, 0, COMMITTED);
         let first = sc.start + open as u64;
-        let next = Summary {
-            first: first,
-            accepting: sum.accepting,
-        };
-        self.summary = next;
+        self.summary = Summary { first, ..sum };
         Handled {
-            answer: 0,
-            count: n,
+            outcome: Ok(n),
             replica: self,
         }
     }

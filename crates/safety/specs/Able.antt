@@ -10,7 +10,7 @@ use Rattle.decide.specs.Scalars.{strict, may_be}
 use Rattle.window.specs.declared.Window.{Window}
 use Rattle.window.specs.ByPlace.{at_place, at_past}
 use Rattle.replica.specs.declared.Replica.{Replica}
-use Rattle.replica.specs.declared.Made.{Made}
+use Rattle.replica.specs.Seen.{Made}
 use Rattle.replica.specs.Record.{new_replica, fresh, zero_replica}
 use Rattle.replica.specs.Fit.{fit}
 use Rattle.replica.specs.Step.{Call, step}

@@ -17,7 +17,7 @@ use Rattle.window.specs.Places.{filled_has}
 use Rattle.window.specs.ByPlace.{at_here, grown_at}
 use Rattle.replica.specs.declared.Replica.{Replica}
 use Rattle.replica.specs.declared.Done.{Done}
-use Rattle.replica.specs.declared.Made.{Made}
+use Rattle.replica.specs.Seen.{Made}
 use Rattle.replica.specs.Record.{Outcome, new_replica, fresh, zero_replica, place}
 use Rattle.replica.specs.Messages.{clean}
 use Rattle.replica.specs.Step.{Call}

@@ -4,7 +4,7 @@ use Rattle.std.specs.Prelude.{◌≡◌, true, false, List, [], ◌⊎◌, ℕ, 
 use Rattle.std.proofs.Common.{sym, ap, subst, ◌∙◌, inl, inr, arith, length-take-le, get_or-take, ext_get_or, le-ltb}
 use Rattle.base.specs.Pick.{pick_cases, decide, tests}
 use Rattle.batch.specs.declared.Batch.{Batch}
-use Rattle.batch.specs.declared.Made.{Made}
+use Rattle.batch.specs.Batches.{Made}
 use Rattle.batch.specs.Batches.{is_batch, make_batch, key_count, key_list, same_batch}
 use Rattle.batch.specs.Laws.{clip_is, same_is, made_few, made_eight, first_at}
 use Rattle.agreement.specs.Frame.{Clean}

@@ -11,6 +11,7 @@ ghost use Rattle.slots.specs.Slots.{appended_slot, offered_slot, fit_slot};
 use batch::{Batch, empty_batch};
 
 // A status is a number that is compared as the source compares statuses.
+// Kept: a number, since a host may write any into the public `Slot.status`, and what takes a slot, a window or a replica says what it does with it.
 pub const NULL: u64 = 0;
 
 pub const PREPARING: u64 = 1;
@@ -29,7 +30,9 @@ pub struct Vote {
 }
 
 // What a leader keeps of a slot.
-#[derive(Clone, Copy)]
+// Kept: `present` is no Option, here and below, since the numbers beside it mean something where it is false too: `sourced` and the laws read them, and a
+// host may write them.
+#[derive(Clone, Copy, Debug, PartialEq, Eq)]
 pub struct LeaderBook {
     pub present: bool,
     pub trigger: u64,
@@ -41,7 +44,7 @@ pub struct LeaderBook {
 }
 
 // What a follower keeps of a slot: whom it answers.
-#[derive(Clone, Copy)]
+#[derive(Clone, Copy, Debug, PartialEq, Eq)]
 pub struct ReplicaBook {
     pub present: bool,
     pub source: u64,
@@ -65,10 +68,9 @@ pub struct Slot {
 pub fn no_vote() -> Vote
     ensures { result ≡ no_vote }
 {
-    let batch = empty_batch();
     Vote {
         ballot: 0,
-        batch: batch,
+        batch: empty_batch(),
     }
 }
 
@@ -76,13 +78,11 @@ pub fn no_vote() -> Vote
 pub fn null_slot() -> Slot
     ensures { result ≡ null_slot }
 {
-    let batch = empty_batch();
-    let vote = no_vote();
     Slot {
         ballot: 0,
         status: NULL,
-        batch: batch,
-        vote: vote,
+        batch: empty_batch(),
+        vote: no_vote(),
         leader: LeaderBook {
             present: false,
             trigger: 0,
@@ -109,8 +109,8 @@ pub fn new_book(trigger: u64, endprep: u64) -> LeaderBook
 {
     LeaderBook {
         present: true,
-        trigger: trigger,
-        endprep: endprep,
+        trigger,
+        endprep,
         prepare_acks: 0,
         prepare_max_bal: 0,
         accept_acks: 0,
@@ -125,10 +125,8 @@ impl ReplicaBook {
     {
         if self.present {
             return ReplicaBook {
-                present: true,
                 source: peer,
-                trigger: self.trigger,
-                endprep: self.endprep,
+                ..self
             };
         }
         ReplicaBook {
@@ -142,40 +140,44 @@ impl ReplicaBook {
 
 // A slot with one part changed.
 impl Slot {
-    pub(crate) fn with_state(mut self, ballot: u64, status: u64) -> Slot
+    pub(crate) fn with_state(self, ballot: u64, status: u64) -> Slot
         ensures { result ≡ with_state self ballot status }
     {
-        self.ballot = ballot;
-        self.status = status;
-        self
+        Slot {
+            ballot,
+            status,
+            ..self
+        }
     }
 
-    pub(crate) fn with_batch(mut self, batch: Batch) -> Slot
+    pub(crate) fn with_batch(self, batch: Batch) -> Slot
         ensures { result ≡ with_batch self batch }
     {
-        self.batch = batch;
-        self
+        Slot { batch, ..self }
     }
 
-    pub(crate) fn with_vote(mut self, vote: Vote) -> Slot
+    pub(crate) fn with_vote(self, vote: Vote) -> Slot
         ensures { result ≡ with_vote self vote }
     {
-        self.vote = vote;
-        self
+        Slot { vote, ..self }
     }
 
-    pub(crate) fn with_leader(mut self, book: LeaderBook) -> Slot
+    pub(crate) fn with_leader(self, book: LeaderBook) -> Slot
         ensures { result ≡ with_leader self book }
     {
-        self.leader = book;
-        self
+        Slot {
+            leader: book,
+            ..self
+        }
     }
 
-    pub(crate) fn with_replica(mut self, book: ReplicaBook) -> Slot
+    pub(crate) fn with_replica(self, book: ReplicaBook) -> Slot
         ensures { result ≡ with_replica self book }
     {
-        self.replica = book;
-        self
+        Slot {
+            replica: book,
+            ..self
+        }
     }
 
     pub(crate) fn with_external(mut self) -> Slot
@@ -199,6 +201,7 @@ impl Slot {
     pub fn is_fit(self, group: u64) -> bool
         ensures { result ≡ fit_slot group self }
     {
+        // Kept: one `&&` chain of the five was tried, and its proof didn't close: each `&&` joins two ways, and the facts of a test are lost at the next.
         if 8 < self.batch.count {
             return false;
         }
@@ -226,11 +229,10 @@ pub fn appended_slot(ballot: u64, book: LeaderBook) -> Slot
 pub fn offered_slot(strict: bool, ballot: u64, batch: Batch) -> Slot
     ensures { result ≡ offered_slot strict ballot batch }
 {
-    let book = new_book(0, 0);
     null_slot()
         .with_state(ballot, ACCEPTING)
         .with_external()
         .with_batch(batch)
-        .with_leader(book)
+        .with_leader(new_book(0, 0))
         .own_voted(strict, ballot)
 }

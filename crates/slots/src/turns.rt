@@ -11,13 +11,10 @@ impl Slot {
     fn put_back(self, strict: bool, status: u64) -> u64
         ensures { result ≡ put_back strict status self }
     {
-        if !strict {
-            return status;
+        if strict && COMMITTED <= self.status {
+            return self.status;
         }
-        if self.status < COMMITTED {
-            return status;
-        }
-        self.status
+        status
     }
 
     // Prepare: Preparing at the ballot, with the bookkeeping of who asked.
@@ -49,8 +46,7 @@ impl Slot {
     pub fn adopted(mut self, vote: Vote) -> Slot
         ensures { result ≡ adopted_slot vote self }
     {
-        let batch = vote.batch;
-        self.batch = batch;
+        self.batch = vote.batch;
         self.leader.prepare_max_bal = vote.ballot;
         self
     }
@@ -59,11 +55,9 @@ impl Slot {
     pub fn noted(mut self, strict: bool, peer: u64) -> Slot
         ensures { result ≡ noted_slot strict peer self }
     {
-        if !strict {
-            return self;
+        if strict {
+            self.leader.notes = members::with(self.leader.notes, peer);
         }
-        let notes = members::with(self.leader.notes, peer);
-        self.leader.notes = notes;
         self
     }
 
@@ -71,18 +65,14 @@ impl Slot {
     pub fn lacks_note(self, peer: u64) -> bool
         ensures { result ≡ lacks_note peer self }
     {
-        if self.status != PREPARING {
-            return false;
-        }
-        !members::contains(self.leader.notes, peer)
+        self.status == PREPARING && !members::contains(self.leader.notes, peer)
     }
 
     // PrepareReply: a member counts, at the trigger slot.
     pub fn counted(mut self, peer: u64) -> Slot
         ensures { result ≡ counted_slot peer self }
     {
-        let acks = members::with(self.leader.prepare_acks, peer);
-        self.leader.prepare_acks = acks;
+        self.leader.prepare_acks = members::with(self.leader.prepare_acks, peer);
         self
     }
 
@@ -93,12 +83,10 @@ impl Slot {
         if !strict {
             return self;
         }
-        let batch = self.batch;
-        let vote = Vote {
-            ballot: ballot,
-            batch: batch,
-        };
-        self.with_vote(vote)
+        self.with_vote(Vote {
+            ballot,
+            batch: self.batch,
+        })
     }
 
     // At the quorum a Preparing slot enters Accept, with an accept entry at a ballot.
@@ -118,24 +106,17 @@ impl Slot {
         ensures { result ≡ accepted_slot strict peer ballot batch self }
     {
         let status = self.put_back(strict, ACCEPTING);
-        let known = self.replica;
-        let book = known.sourced(peer);
-        let vote = Vote {
-            ballot: ballot,
-            batch: batch,
-        };
         self.with_state(ballot, status)
             .with_batch(batch)
-            .with_replica(book)
-            .with_vote(vote)
+            .with_replica(self.replica.sourced(peer))
+            .with_vote(Vote { ballot, batch })
     }
 
     // AcceptReply: a member has accepted.
     pub fn acknowledged(mut self, peer: u64) -> Slot
         ensures { result ≡ acknowledged_slot peer self }
     {
-        let acks = members::with(self.leader.accept_acks, peer);
-        self.leader.accept_acks = acks;
+        self.leader.accept_acks = members::with(self.leader.accept_acks, peer);
         self
     }
 
@@ -180,10 +161,7 @@ impl Slot {
     pub fn logged(self, offset: u64) -> Slot
         ensures { result ≡ logged_slot offset self }
     {
-        if self.wal_offset == 0 {
-            return self.with_offset(offset);
-        }
-        if offset < self.wal_offset {
+        if self.wal_offset == 0 || offset < self.wal_offset {
             return self.with_offset(offset);
         }
         self

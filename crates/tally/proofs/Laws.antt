@@ -1,5 +1,5 @@
 -- The rest of specs/Laws.antt: what stands on a theorem that a must-fail edit makes false.
-use Rattle.std.specs.Prelude.{◌≡◌, Bool, true, not, [], ◌∷◌, ℕ, ◌≤◌, ◌<◌, length, ltb, leb, eqb}
+use Rattle.std.specs.Prelude.{◌≡◌, Bool, true, not, [], ◌∷◌, ℕ, ◌≤◌, ◌<◌, length, ltb, leb, eqb, Ok}
 use Rattle.std.proofs.Math.Path.{refl}
 use Rattle.std.proofs.Common.{sym, ap, ◌∙◌, ⊎_elim, le_refl, arith}
 use Rattle.std.proofs.Math.Bool.{false}
@@ -14,15 +14,11 @@ use Rattle.members.specs.Sets.{has, insert, count_in}
 use Rattle.tally.specs.declared.Best.TheVariants.{Nothing}
 use Rattle.tally.specs.declared.KeyBest.{KeyBest}
 use Rattle.tally.specs.declared.Tally.{Tally}
-use Rattle.tally.specs.declared.MergedKey.{MergedKey}
-use Rattle.tally.specs.declared.MergedKey.TheVariants.{Into, Conflict}
-use Rattle.tally.specs.declared.Merged.{Merged}
 use Rattle.tally.specs.declared.Read.{Read}
-use Rattle.tally.specs.declared.Replied.{Replied}
-use Rattle.tally.specs.Merge.{merge_key, merged_answer, conflicts, merged_best, no_best, best_at, agree_at, conflict_at, merge_at, merge_up_to, merge}
+use Rattle.tally.specs.Merge.{MergedKey, clashing, Merged, merge_key, merged_answer, conflicts, merged_best, no_best, best_at, agree_at, conflict_at, merge_at, merge_up_to, merge}
 use Rattle.tally.specs.Larger.{level, merged_into}
 use Rattle.tally.proofs.Larger.{merged_level, merged_rises}
-use Rattle.tally.specs.Open.{with_tally, with_ack, stays, replaced, reply_to}
+use Rattle.tally.specs.Open.{Replied, with_tally, with_ack, stays, replaced, reply_to}
 use Rattle.tally.specs.Laws.{clashed, first_kept}
 
 -- A TALLY
@@ -42,7 +38,7 @@ module _ (held reply : Tally) where
   pub merge_cases : (P : Merged → Type 0) → P (record { answer = 1; tally = held }) → P (record { answer = 10; tally = held })
       → P (record { answer = 6; tally = held })
       → (held.count ≡ reply.count → held.count ≤ 8 → conflict_at held reply < held.count
-      → P (record { answer = merged_answer Conflict; tally = merge_up_to held reply (conflict_at held reply) }))
+      → P (record { answer = merged_answer clashing; tally = merge_up_to held reply (conflict_at held reply) }))
       → (held.count ≡ reply.count → held.count ≤ 8 → conflict_at held reply ≡ held.count
       → P (record { answer = 0; tally = merge_up_to held reply (conflict_at held reply) }))
       → P (merge held reply)
@@ -98,22 +94,22 @@ module _ (held reply : Tally) where
   pub record Joined (after : Tally) : Type 0 where
     pub even : held.count ≡ reply.count
     pub few : held.count ≤ 8
-    pub apart : (i : ℕ) → i < held.count → merge_key (best_at held i) (best_at reply i) ≡ Conflict → ⊥
-    pub each : (i : ℕ) → i < held.count → i < length held.bests → merge_key (best_at held i) (best_at reply i) ≡ Into (best_at after i)
+    pub apart : (i : ℕ) → i < held.count → merge_key (best_at held i) (best_at reply i) ≡ clashing → ⊥
+    pub each : (i : ℕ) → i < held.count → i < length held.bests → merge_key (best_at held i) (best_at reply i) ≡ Ok (best_at after i)
 
   -- answer 12: the first key that conflicts; those before it are merged, those from it on are as they were
   pub record Stopped (after : Tally) : Type 0 where
     pub at : ℕ
     pub below : at < held.count
-    pub here : merge_key (best_at held at) (best_at reply at) ≡ Conflict
-    pub earlier : (i : ℕ) → i < at → i < length held.bests → merge_key (best_at held i) (best_at reply i) ≡ Into (best_at after i)
+    pub here : merge_key (best_at held at) (best_at reply at) ≡ clashing
+    pub earlier : (i : ℕ) → i < at → i < length held.bests → merge_key (best_at held i) (best_at reply i) ≡ Ok (best_at after i)
     pub later : (i : ℕ) → at ≤ i → best_at after i ≡ best_at held i
 
   passed : (i : ℕ) → i < conflict_at held reply → agree_at held reply i ≡ true
   passed i h = scan_passed (agree_at held reply) 0 held.count i (omega arith) h
 
   passed_into : (i : ℕ) → i < conflict_at held reply → i < length held.bests
-      → merge_key (best_at held i) (best_at reply i) ≡ Into (best_at (merge_up_to held reply (conflict_at held reply)) i)
+      → merge_key (best_at held i) (best_at reply i) ≡ Ok (best_at (merge_up_to held reply (conflict_at held reply)) i)
   passed_into i h q = rw (merged_at (conflict_at held reply) i h q) (merged_into (best_at held i) _ (not-true _ (passed i h)))
 
   pub merge-Joined : (merge held reply).answer ≡ 0 → Joined (merge held reply).tally
@@ -135,7 +131,7 @@ module _ (held reply : Tally) where
       rw (← ap (λ (m : MergedKey). level (merged_best (best_at held i) m)) ((merge-Joined e).each i h q), merged_level (best_at held i) (best_at reply i))
       (larger_right (level (best_at held i)) (level (best_at reply i)))
 
-  pub merge-Stopped : (merge held reply).answer ≡ merged_answer Conflict → Stopped (merge held reply).tally
+  pub merge-Stopped : (merge held reply).answer ≡ merged_answer clashing → Stopped (merge held reply).tally
   merge-Stopped =
       merge_cases (λ (m : Merged). m.answer ≡ 12 → Stopped m.tally) (λ z. absurd (omega arith)) (λ z. absurd (omega arith)) (λ z. absurd (omega arith))
       (λ e f h z.
@@ -149,17 +145,17 @@ module _ (held reply : Tally) where
       (λ e f h z. absurd (omega arith))
 
   -- "All but 0 and 12 change nothing"
-  pub merge_refused : ((merge held reply).answer ≡ 0 → ⊥) → ((merge held reply).answer ≡ merged_answer Conflict → ⊥) → (merge held reply).tally ≡ held
+  pub merge_refused : ((merge held reply).answer ≡ 0 → ⊥) → ((merge held reply).answer ≡ merged_answer clashing → ⊥) → (merge held reply).tally ≡ held
   merge_refused =
       merge_cases (λ (m : Merged). (m.answer ≡ 0 → ⊥) → (m.answer ≡ 12 → ⊥) → m.tally ≡ held) (λ z w. refl) (λ z w. refl) (λ z w. refl)
       (λ e f h z w. absurd (w refl)) (λ e f h z w. absurd (z refl))
 
   -- where nothing is known yet a reply is no conflict, and what it tells of each key is known after it
   module _ (blank : (i : ℕ) → i < held.count → best_at held i ≡ Nothing) where
-    taken_as_told : (i : ℕ) → i < held.count → merge_key (best_at held i) (best_at reply i) ≡ Into (best_at reply i)
+    taken_as_told : (i : ℕ) → i < held.count → merge_key (best_at held i) (best_at reply i) ≡ Ok (best_at reply i)
     taken_as_told i h = rw (blank i h) (first_kept (best_at reply i))
 
-    pub first_no_conflict : (merge held reply).answer ≡ merged_answer Conflict → ⊥
+    pub first_no_conflict : (merge held reply).answer ≡ merged_answer clashing → ⊥
     first_no_conflict e =
         let s = merge-Stopped e in clash refl (ap (λ (m : MergedKey). conflicts m) (sym s.here ∙ taken_as_told s.at s.below))
 
@@ -207,14 +203,14 @@ module _ (quorum peer : ℕ) (leads : Bool) (reply : Tally) (r : Read) where
   reply_keeps_keys = reply_cases (λ (o : Replied). o.read.keys ≡ r.keys) refl refl (λ h. refl) refl refl
 
   -- answer 12: "merges for earlier keys stay, the sender is not acknowledged, the read stays open"
-  pub reply_conflict : (reply_to quorum peer leads reply r).answer ≡ merged_answer Conflict
-      → reply_to quorum peer leads reply r ≡ stays (merged_answer Conflict) (with_tally r (merge r.tally reply).tally)
+  pub reply_conflict : (reply_to quorum peer leads reply r).answer ≡ merged_answer clashing
+      → reply_to quorum peer leads reply r ≡ stays (merged_answer clashing) (with_tally r (merge r.tally reply).tally)
   reply_conflict =
       reply_cases (λ (o : Replied). o.answer ≡ 12 → o ≡ stays 12 (with_tally r (merge r.tally reply).tally))
       (λ z. absurd (omega arith)) (λ z. absurd (omega arith)) (λ h z. rw z) (λ z. absurd (omega arith)) (λ z. absurd (omega arith))
 
   -- all but 0 and 12 change nothing, and the read stays open
-  pub reply_refused : ((reply_to quorum peer leads reply r).answer ≡ 0 → ⊥) → ((reply_to quorum peer leads reply r).answer ≡ merged_answer Conflict → ⊥)
+  pub reply_refused : ((reply_to quorum peer leads reply r).answer ≡ 0 → ⊥) → ((reply_to quorum peer leads reply r).answer ≡ merged_answer clashing → ⊥)
       → reply_to quorum peer leads reply r ≡ stays (reply_to quorum peer leads reply r).answer r
   reply_refused =
       reply_cases (λ (o : Replied). (o.answer ≡ 0 → ⊥) → (o.answer ≡ 12 → ⊥) → o ≡ stays o.answer r)

@@ -8,10 +8,9 @@ use Rattle.members.specs.Sets.{has, insert, count_in}
 use Rattle.members.specs.Laws.{insert_again, insert_below, count_new}
 use Rattle.members.specs.Many.{insert_all, insert_all_count, insert_all_same}
 use Rattle.tally.specs.declared.Tally.{Tally}
-use Rattle.tally.specs.declared.Merged.{Merged}
+use Rattle.tally.specs.Merge.{Merged}
 use Rattle.tally.specs.declared.Read.{Read}
-use Rattle.tally.specs.declared.Replied.{Replied}
-use Rattle.tally.specs.Open.{stays, quorum_closes, acknowledged, reply_to}
+use Rattle.tally.specs.Open.{Replied, stays, quorum_closes, acknowledged, reply_to}
 use Rattle.tally.specs.Cases.{reply_again, reply_new}
 use Rattle.tally.specs.AnyOrder.{Agreeing, merge_all, joined, joined-Eight, agreeing_merge}
 use Rattle.tally.proofs.AnyOrder.{Agreeing-joined, any_order}

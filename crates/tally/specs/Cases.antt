@@ -4,12 +4,10 @@ use Rattle.std.proofs.Common.{ap, ◌∙◌}
 use borrow.Author.Tests.{lt-ltb, le-ltb, le-leb, lt-leb, eq-eqb, ne_eqb}
 use Rattle.members.specs.Sets.{has}
 use Rattle.tally.specs.declared.Tally.{Tally}
-use Rattle.tally.specs.declared.Merged.{Merged}
 use Rattle.tally.specs.declared.Read.{Read}
 use Rattle.tally.specs.declared.Reads.{Reads}
-use Rattle.tally.specs.declared.Replied.{Replied}
-use Rattle.tally.specs.Merge.{merge}
-use Rattle.tally.specs.Open.{new_read, find_read, open_read, with_tally, with_ack, stays, replaced, quorum_closes, acknowledged, reply_to}
+use Rattle.tally.specs.Merge.{Merged, merge}
+use Rattle.tally.specs.Open.{Replied, new_read, find_read, open_read, with_tally, with_ack, stays, replaced, quorum_closes, acknowledged, reply_to}
 
 module _ (rs : Reads) (id count : ℕ) (keys : List ℕ) where
   pub open_empty : count ≡ 0 → open_read rs id count keys ≡ record { answer = 10; reads = rs }

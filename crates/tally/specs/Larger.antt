@@ -1,6 +1,6 @@
 -- One key: a merge is the larger of two in one order (nothing, then by slot, at one slot a value above none). So of answers that agree neither order nor
 -- repetition makes a difference.
-use Rattle.std.specs.Prelude.{◌≡◌, refl, Bool, true, false, not, ◌&&◌, List, [], ◌∷◌, ℕ, suc, ◌+◌, ◌≤◌, ◌<◌, ltb, leb, eqb}
+use Rattle.std.specs.Prelude.{◌≡◌, refl, Bool, true, false, not, ◌&&◌, List, [], ◌∷◌, ℕ, suc, ◌+◌, ◌≤◌, ◌<◌, ltb, leb, eqb, Ok, Err}
 use Rattle.std.proofs.Common.{sym, ap, ◌∙◌, ⊎_elim, le_refl, arith, lt-ltb, le-ltb, eqb-true, eq-eqb, ne_eqb}
 use mathlib.Core.List.Memᴰ
 use Rattle.std.proofs.lemmas.Bool.{not-true}
@@ -8,9 +8,7 @@ use Rattle.base.specs.Pick.{pick, larger, pick_both, pick_cases, pick_same, pick
 use Rattle.base.specs.Among.{◌∈◌, SameMembers}
 use Rattle.tally.specs.declared.Best.{Best}
 use Rattle.tally.specs.declared.Best.TheVariants.{Nothing, Slot, Value}
-use Rattle.tally.specs.declared.MergedKey.{MergedKey}
-use Rattle.tally.specs.declared.MergedKey.TheVariants.{Into, Conflict}
-use Rattle.tally.specs.Merge.{best_numbers, merge_key, conflicts, merged_best}
+use Rattle.tally.specs.Merge.{MergedKey, clashing, best_numbers, merge_key, conflicts, merged_best}
 
 -- ONE ORDER
 
@@ -38,7 +36,7 @@ more_level a b = sym (pick_through level (ltb (level a) (level b)) (λ t. refl) 
 -- what is told takes the place of what is held exactly where it is more
 taken_or_kept : (held told : Best) (taken : Bool) (else : MergedKey) → merged_best held else ≡ held
     → (taken ≡ true → level held < level told) → (taken ≡ false → level told ≤ level held)
-    → merged_best held (pick taken (Into told) else) ≡ more_known held told
+    → merged_best held (pick taken (Ok told) else) ≡ more_known held told
 taken_or_kept held told taken else stays above below =
     pick_cases (λ (m : MergedKey). merged_best held m ≡ more_known held told) taken (λ e. sym (more_right held told (above e)))
     (λ e. stays ∙ sym (more_left held told (below e)))
@@ -48,25 +46,25 @@ pub merged_more : (held reply : Best) → merged_best held (merge_key held reply
 merged_more held Nothing = sym (more_left held Nothing (omega arith))
 merged_more Nothing (Slot s) = sym (more_right Nothing (Slot s) (omega arith))
 merged_more (Slot t) (Slot s) =
-    taken_or_kept (Slot t) (Slot s) (ltb t s) (Into (Slot t)) refl (λ e. omega (arith, tests)) (λ e. omega (arith, tests))
+    taken_or_kept (Slot t) (Slot s) (ltb t s) (Ok (Slot t)) refl (λ e. omega (arith, tests)) (λ e. omega (arith, tests))
 merged_more (Value k) (Slot s) =
-    taken_or_kept (Value k) (Slot s) (ltb k.slot s) (Into (Value k)) refl (λ e. omega (arith, tests)) (λ e. omega (arith, tests))
+    taken_or_kept (Value k) (Slot s) (ltb k.slot s) (Ok (Value k)) refl (λ e. omega (arith, tests)) (λ e. omega (arith, tests))
 merged_more Nothing (Value h) = sym (more_right Nothing (Value h) (omega arith))
 merged_more (Slot t) (Value h) =
-    taken_or_kept (Slot t) (Value h) (leb t h.slot) (Into (Slot t)) refl (λ e. omega (arith, tests)) (λ e. omega (arith, tests))
+    taken_or_kept (Slot t) (Value h) (leb t h.slot) (Ok (Slot t)) refl (λ e. omega (arith, tests)) (λ e. omega (arith, tests))
 merged_more (Value k) (Value h) =
     let other : Bool = eqb k.slot h.slot && not (eqb k.value h.value) in
-    taken_or_kept (Value k) (Value h) (ltb k.slot h.slot) (pick other Conflict (Into (Value k)))
+    taken_or_kept (Value k) (Value h) (ltb k.slot h.slot) (pick other clashing (Ok (Value k)))
     (pick_both (λ (m : MergedKey). merged_best (Value k) m ≡ Value k) other refl refl) (λ e. omega (arith, tests)) (λ e. omega (arith, tests))
 
 -- a merge that is no conflict leaves what it says
-pub merged_into : (held : Best) (m : MergedKey) → conflicts m ≡ false → m ≡ Into (merged_best held m)
-merged_into held (Into b) e = refl
-merged_into held Conflict e = absurd (clash refl e)
+pub merged_into : (held : Best) (m : MergedKey) → conflicts m ≡ false → m ≡ Ok (merged_best held m)
+merged_into held (Ok b) e = refl
+merged_into held (Err c) e = absurd (clash refl e)
 
-pub no_clash : (m : MergedKey) → (m ≡ Conflict → ⊥) → conflicts m ≡ false
-no_clash (Into b) h = refl
-no_clash Conflict h = absurd (h refl)
+pub no_clash : (m : MergedKey) → (m ≡ clashing → ⊥) → conflicts m ≡ false
+no_clash (Ok b) h = refl
+no_clash (Err c) h = absurd (h refl)
 
 -- ANSWERS THAT AGREE
 

@@ -1,17 +1,48 @@
 -- Open reads. 01: "A read has 1 to 8 keys, opens with no acknowledgements and with nothing known per key."
-use Rattle.std.specs.Prelude.{Bool, true, false, not, ◌&&◌, ◌||◌, List, [], ℕ, ◌+◌, ◌-◌, ltb, leb, eqb, get_or, set, replicate}
+use Rattle.std.specs.Prelude.{Bool, true, false, not, ◌&&◌, ◌||◌, List, [], ℕ, ◌+◌, ◌-◌, ltb, leb, eqb, get_or, set, replicate, Option, Some, None, Result, Ok, Err}
 use Rattle.base.specs.Pick.{pick}
 use Rattle.base.specs.Find.{any}
 use Rattle.base.specs.Scan.{scan}
 use Rattle.batch.specs.Batches.{first_keys}
 use Rattle.members.specs.Sets.{has, insert, count_in, fits_group}
 use Rattle.tally.specs.declared.Tally.{Tally}
-use Rattle.tally.specs.declared.Merged.{Merged}
 use Rattle.tally.specs.declared.Read.{Read}
 use Rattle.tally.specs.declared.Reads.{Reads}
-use Rattle.tally.specs.declared.Opened.{Opened}
-use Rattle.tally.specs.declared.Replied.{Replied}
-use Rattle.tally.specs.Merge.{no_best, merge}
+use Rattle.tally.specs.declared.OpenError.{OpenError}
+use Rattle.tally.specs.declared.OpenError.TheVariants.{Outside, Full}
+use Rattle.tally.specs.declared.MergeError.{MergeError}
+use Rattle.tally.specs.declared.Replied as code
+use Rattle.tally.specs.Merge.{Merged, error_number, no_best, merge}
+
+-- a read opened: 01's number for the answer (0, 10 or 11), and the table after it
+pub record Opened : Type 0 where
+  pub answer : ℕ
+  pub reads : Reads
+
+-- 01's number for each way that a read is not opened, and for what the code's call comes to
+abbrev pub open_number : OpenError → ℕ
+open_number Outside = 10
+open_number Full = 11
+
+abbrev pub numbered_open : Result Unit OpenError → Reads → Opened
+numbered_open (Ok done) reads = record { answer = 0; reads = reads }
+numbered_open (Err e) reads = record { answer = open_number e; reads = reads }
+
+-- a reply to a read: 01's number for the answer, whether the read closes, with so many keys answered, and the read after it
+pub record Replied : Type 0 where
+  pub answer : ℕ
+  pub closes : Bool
+  pub answers : ℕ
+  pub read : Read
+
+-- what the code's outcome comes to
+abbrev pub reply_as : Result (Option ℕ) MergeError → Read → Replied
+reply_as (Ok (Some answers)) read = record { answer = 0; closes = true; answers = answers; read = read }
+reply_as (Ok None) read = record { answer = 0; closes = false; answers = 0; read = read }
+reply_as (Err e) read = record { answer = error_number e; closes = false; answers = 0; read = read }
+
+abbrev pub numbered_reply : code.Replied → Replied
+numbered_reply d = reply_as d.outcome d.read
 
 abbrev pub nothing_known : ℕ → Tally
 nothing_known count = record { count = count; bests = replicate 8 no_best }

@@ -1,5 +1,5 @@
 -- What the table of open reads promises: a search finds the id asked for, a read is added at the end or taken out, and ids stay distinct; its fit test.
-use Rattle.std.specs.Prelude.{◌≡◌, Bool, true, false, not, ◌||◌, ℕ, ◌+◌, ◌-◌, ◌≤◌, ◌<◌, length, get_or, set, eqb}
+use Rattle.std.specs.Prelude.{◌≡◌, Bool, true, false, not, ◌&&◌, ◌||◌, Option, take, ℕ, ◌+◌, ◌-◌, ◌≤◌, ◌<◌, length, get_or, set, eqb}
 use Rattle.std.proofs.Math.Path.{refl}
 use Rattle.std.proofs.Common.{sym, ap, ◌∙◌, ⊎_elim, le_refl, arith, length-set, get_or-set_same, get_or-set_other, set-set}
 use Rattle.std.proofs.Math.Bool.{and-false}
@@ -7,17 +7,19 @@ use mathlib.Core.List.Memᴰ
 use mathlib.Core.List.{List, [], ◌∷◌}
 use Rattle.std.proofs.Math.ListN.{get_or-map}
 use Rattle.std.proofs.Math.Seq.{map-set_same}
-use Rattle.std.proofs.lemmas.List.{set-get_or}
+use Rattle.std.proofs.lemmas.List.{set-get_or, length-take-le}
+use Rattle.std.specs.List.{list_any, list_all, position}
+use Rattle.std.specs.Option.{unwrap_or}
 use Rattle.std.proofs.Math.Dec.{ltb, leb}
 use borrow.Author.Tests.{le-ltb, le-leb, lt-leb, ltb-true, ltb-false, leb-false, eqb-true, eqb-false, not-true, not-false}
 use Rattle.base.specs.Pick.{pick, pick_both, pick_cases, decide, same?, and_right, or-false, tests}
 use Rattle.base.specs.Among.{◌∈◌}
 use Rattle.base.specs.Find.{twice, any, any-false, search_found, search_more, search_done}
 use Rattle.base.specs.Scan.{scan_high, scan_passed, scan_stopped}
+use Rattle.base.specs.Spans.{any_front, scan_front, position_or_end}
 use Rattle.tally.specs.declared.Read.{Read}
 use Rattle.tally.specs.declared.Reads.{Reads}
-use Rattle.tally.specs.declared.Opened.{Opened}
-use Rattle.tally.specs.Open.{new_read, no_read, other_id_at, find_read, open_read, close_read, put_read, fit_read, fit_reads}
+use Rattle.tally.specs.Open.{Opened, new_read, no_read, other_id_at, find_read, open_read, close_read, put_read, fit_read, fit_reads}
 
 abbrev pub read_at : Reads → ℕ → Read
 read_at rs i = get_or rs.reads i no_read
@@ -308,3 +310,27 @@ module _ (group : ℕ) (rs : Reads) where
   read_fits i e l =
       not-false _
       (any-false (unfit_read group rs) 0 rs.count i (not-true (any (unfit_read group rs) 0 rs.count) (and_right (leb rs.count 16) _ e)) (omega arith) l)
+
+-- THE CODE'S SEARCHES, of the part of the list that is in use
+
+pub find_by : (rs : Reads) (id : ℕ) → length rs.reads ≡ 16 → rs.count ≤ 16 → (r : Option ℕ) → r ≡ position (λ (d : Read). eqb d.id id) (take rs.count rs.reads)
+    → unwrap_or r rs.count ≡ find_read rs id
+unfolding find_read
+find_by rs id sized few r e =
+    let p : Read → Bool = λ d. eqb d.id id in
+    rw (e, position_or_end p (take rs.count rs.reads) rs.count (length-take-le rs.count rs.reads (omega arith)), le-ltb 16 rs.count few)
+    (sym (scan_front p no_read rs.reads rs.count (omega arith)))
+
+all_or_not : (a b c : Bool) → not b ≡ c → not (not a || b) ≡ (a && c)
+all_or_not true b c e = e
+all_or_not false b c e = refl
+
+all_not : (p : Read → Bool) (l : List Read) → not (list_any (λ (d : Read). not (p d)) l) ≡ list_all p l
+all_not p [] = refl
+all_not p (d ∷ l) = all_or_not (p d) (list_any (λ (d : Read). not (p d)) l) (list_all p l) (all_not p l)
+
+pub fit_by : (group : ℕ) (rs : Reads) → length rs.reads ≡ 16 → rs.count ≤ 16 → list_all (fit_read group) (take rs.count rs.reads) ≡ fit_reads group rs
+unfolding fit_reads
+fit_by group rs sized few =
+    rw (le-leb rs.count 16 few, any_front (λ (d : Read). not (fit_read group d)) no_read rs.reads rs.count (omega arith))
+    (sym (all_not (fit_read group) (take rs.count rs.reads)))

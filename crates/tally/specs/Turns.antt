@@ -1,5 +1,5 @@
 -- The turns of the two loops, of a merge and of a search of the table: what is known at each place, and the ways out.
-use Rattle.std.specs.Prelude.{◌≡◌, refl, ℕ, ◌+◌, ◌≤◌, ◌<◌, get_or, set}
+use Rattle.std.specs.Prelude.{◌≡◌, refl, ℕ, ◌+◌, ◌≤◌, ◌<◌, get_or, set, Ok}
 use Rattle.std.proofs.Math.Path.{sym}
 use Rattle.std.proofs.Common.{ap, ◌∙◌, le_refl}
 use native.Mathlib.Omega.{arith}
@@ -9,11 +9,9 @@ use Rattle.base.specs.Scan.{scan, scan_on, scan_stop, scan_end}
 use Rattle.tally.specs.declared.Best.{Best}
 use Rattle.tally.specs.declared.KeyBest.{KeyBest}
 use Rattle.tally.specs.declared.Tally.{Tally}
-use Rattle.tally.specs.declared.MergedKey.{MergedKey}
-use Rattle.tally.specs.declared.MergedKey.TheVariants.{Into, Conflict}
 use Rattle.tally.specs.declared.Reads.{Reads}
 use Rattle.tally.specs.Open.{no_read, other_id_at, find_read}
-use Rattle.tally.specs.Merge.{merge_key, no_best, best_at, agree_at, conflict_at, merge_at, merge_up_to, merge}
+use Rattle.tally.specs.Merge.{MergedKey, clashing, merge_key, no_best, best_at, agree_at, conflict_at, merge_at, merge_up_to, merge}
 
 module _ (held reply : Tally) where
   -- the keys below i are merged, and none of them conflicts
@@ -29,11 +27,11 @@ module _ (held reply : Tally) where
   pub merging_at : (i : ℕ) (s : Tally) → s ≡ merge_up_to held reply i → best_at s i ≡ best_at held i
   merging_at i s e = rw e (ap (λ (k : KeyBest). k.best) (over_after (merge_at reply) no_best 0 i held.bests i (le_refl i)))
 
-  pub Merging-turn : (i : ℕ) (s : Tally) (m : MergedKey) (b : Best) → Merging i s → i < held.count → m ≡ merge_key (best_at s i) (best_at reply i) → m ≡ Into b
+  pub Merging-turn : (i : ℕ) (s : Tally) (m : MergedKey) (b : Best) → Merging i s → i < held.count → m ≡ merge_key (best_at s i) (best_at reply i) → m ≡ Ok b
       → Merging (i + 1) (record { count = s.count; bests = set s.bests i (record { best = b }) })
   Merging-turn i s m b g h e f =
-      let same : merge_key (best_at held i) (best_at reply i) ≡ Into b = rw (← merging_at i s g.tally, ← e) f in
-      let here : merge_key (best_at (merge_up_to held reply i) i) (best_at reply i) ≡ Into b = rw (← g.tally, ← e) f in
+      let same : merge_key (best_at held i) (best_at reply i) ≡ Ok b = rw (← merging_at i s g.tally, ← e) f in
+      let here : merge_key (best_at (merge_up_to held reply i) i) (best_at reply i) ≡ Ok b = rw (← g.tally, ← e) f in
       record {
         tally = rw (over_more (merge_at reply) no_best 0 i held.bests (omega arith), here, g.tally);
         on = sym (scan_on (agree_at held reply) i held.count h (rw same)) ∙ g.on;
@@ -55,11 +53,11 @@ module _ (held reply : Tally) where
       refuse_lengths h = rw (le-ltb 8 held.count few, le-ltb 8 reply.count fewer, ne_eqb held.count reply.count h)
 
       module _ (even : held.count ≡ reply.count) (i : ℕ) (s : Tally) (g : Merging i s) where
-        pub merging_stop : (m : MergedKey) → i < held.count → m ≡ merge_key (best_at s i) (best_at reply i) → m ≡ Conflict
+        pub merging_stop : (m : MergedKey) → i < held.count → m ≡ merge_key (best_at s i) (best_at reply i) → m ≡ clashing
             → record { answer = 12; tally = s } ≡ merge held reply
         unfolding merge
         merging_stop m h e f =
-            let same : merge_key (best_at held i) (best_at reply i) ≡ Conflict = rw (← merging_at i s g.tally, ← e) f in
+            let same : merge_key (best_at held i) (best_at reply i) ≡ clashing = rw (← merging_at i s g.tally, ← e) f in
             let stop : conflict_at held reply ≡ i = sym g.on ∙ scan_stop (agree_at held reply) i held.count h (rw same) in
             rw (le-ltb 8 held.count few, le-ltb 8 reply.count fewer, eq-eqb held.count reply.count even, stop, lt-ltb i held.count h, g.tally)
 

@@ -2,15 +2,15 @@
 ghost use Rattle.std.specs.Prelude.{◌≡◌};
 ghost use Rattle.tally.specs.Merge as merging;
 
-use crate::Tally;
 use crate::merge::merge;
+use crate::{MergeError, Tally};
 
-// One reply over the tally that is lent: `merge`'s answer, and its tally in the place of the one that was there.
-pub fn merge_into(held: &mut Tally, reply: Tally) -> u64
-    ensures { (result ≡ (merging.merge held.old reply).answer) × (held.new ≡ (merging.merge held.old reply).tally) }
+// One reply over the tally that is lent: `merge`'s outcome, and its tally in the place of the one that was there.
+// Kept: a thin call over `merge`, since 01 says so.
+pub fn merge_into(held: &mut Tally, reply: Tally) -> Result<(), MergeError>
+    ensures { merging.lent result held.new ≡ merging.merge held.old reply }
 {
     let merged = merge(*held, reply);
-    let tally = merged.tally;
-    *held = tally;
-    merged.answer
+    *held = merged.tally;
+    merged.outcome
 }

@@ -6,57 +6,85 @@ pub mod listed;
 pub mod merge;
 pub mod open_reads;
 
+use std::fmt;
+
+// How many reads can be open at a time.
+pub const READS: usize = 16;
+
 // A slot and the value that it holds.
-#[derive(Clone, Copy)]
+#[derive(Clone, Copy, Debug, PartialEq, Eq)]
 pub struct Held {
     pub slot: u64,
     pub value: u64,
 }
 
 // The best answer known for a key.
-#[derive(Clone, Copy)]
+// Kept: 01 asks for an enum of three cases, held in a struct for each key.
+#[derive(Clone, Copy, Debug, PartialEq, Eq)]
 pub enum Best {
     Nothing,
     Slot(u64),
     Value(Held),
 }
 
+// 01's three numbers: tag, slot and value.
+impl fmt::Display for Best {
+    fn fmt<W: fmt::Write>(&self, f: &mut fmt::Formatter<W>) -> fmt::Result {
+        match self {
+            Best::Nothing => f.write_str("0 0 0"),
+            Best::Slot(slot) => write!(f, "1 {slot} 0"),
+            Best::Value(held) => write!(f, "2 {} {}", held.slot, held.value),
+        }
+    }
+}
+
 // One key's place in a tally.
-#[derive(Clone, Copy)]
+#[derive(Clone, Copy, Debug, PartialEq, Eq)]
 pub struct KeyBest {
     pub best: Best,
 }
 
 // A tally, and a reply: the best answers of the first `count` keys.
-#[derive(Clone, Copy)]
+// Kept: an array and a count, here and below, since the core has fixed memory and no heap. No `==` is derived for a struct that has one: two tallies that
+// know the same differ where places past the count do.
+#[derive(Clone, Copy, Debug)]
 pub struct Tally {
     pub count: usize,
     pub bests: [KeyBest; 8],
 }
 
-// A reply merged into one key.
-#[derive(Clone, Copy)]
-pub enum MergedKey {
-    Into(Best),
+// A key of which held and reply have different values at one slot.
+#[derive(Clone, Copy, Debug, PartialEq, Eq)]
+pub struct Conflict;
+
+// Why a reply is not merged, or not to its end.
+#[derive(Clone, Copy, Debug, PartialEq, Eq)]
+pub enum MergeError {
+    // the tally held has more than eight keys
+    HeldTooLong,
+    // the reply has more than eight
+    ReplyTooLong,
+    UnequalLengths,
+    // at a key: the keys before it are merged
     Conflict,
 }
 
-// A reply merged into a tally: answer 0, 1, 6, 10 or 12.
-#[derive(Clone, Copy)]
+// A reply merged into a tally, and the tally after it.
+#[derive(Clone, Copy, Debug)]
 pub struct Merged {
-    pub answer: u64,
+    pub outcome: Result<(), MergeError>,
     pub tally: Tally,
 }
 
 // What a closed read answers for one key: 01's tag, and the value, or the leader to retry at.
-#[derive(Clone, Copy)]
+#[derive(Clone, Copy, Debug, PartialEq, Eq)]
 pub struct ReadAnswer {
     pub tag: u64,
     pub value: u64,
 }
 
 // An open read: who has answered, the keys asked for, and what is known of them.
-#[derive(Clone, Copy)]
+#[derive(Clone, Copy, Debug)]
 pub struct Read {
     pub id: u64,
     pub acks: u64,
@@ -65,24 +93,24 @@ pub struct Read {
 }
 
 // The table of open reads: the first `count` places are in use.
-#[derive(Clone, Copy)]
+#[derive(Clone, Copy, Debug)]
 pub struct Reads {
     pub count: usize,
-    pub reads: [Read; 16],
+    pub reads: [Read; READS],
 }
 
-// A read opened: answer 0, 10 or 11.
-#[derive(Clone, Copy)]
-pub struct Opened {
-    pub answer: u64,
-    pub reads: Reads,
+// Why a read is not opened.
+#[derive(Clone, Copy, Debug, PartialEq, Eq)]
+pub enum OpenError {
+    // no keys, more than eight, or an id in use
+    Outside,
+    // as many reads are open as there is room for
+    Full,
 }
 
-// One reply to one open read: the answer, the read after it, and whether it closes with so many keys answered.
-#[derive(Clone, Copy)]
+// One reply to one open read: whether it closes, with so many keys answered, or stays open; and the read after it.
+#[derive(Clone, Copy, Debug)]
 pub struct Replied {
-    pub answer: u64,
-    pub closes: bool,
-    pub answers: usize,
+    pub outcome: Result<Option<usize>, MergeError>,
     pub read: Read,
 }

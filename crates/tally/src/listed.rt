@@ -8,19 +8,12 @@ use super::{Best, Held, KeyBest, Tally};
 fn best_from(tag: u64, slot: u64, value: u64) -> KeyBest
     ensures { result ≡ best_from tag slot value }
 {
-    if tag == 0 {
-        let nothing = Best::Nothing;
-        return KeyBest { best: nothing };
-    }
-    if tag == 1 {
-        let alone = Best::Slot(slot);
-        return KeyBest { best: alone };
-    }
-    let held = Best::Value(Held {
-        slot: slot,
-        value: value,
-    });
-    KeyBest { best: held }
+    let best = match tag {
+        0 => Best::Nothing,
+        1 => Best::Slot(slot),
+        _ => Best::Value(Held { slot, value }),
+    };
+    KeyBest { best }
 }
 
 // What is known of the i-th key.
@@ -35,17 +28,12 @@ fn best_of(entries: [u64; 24], i: usize) -> KeyBest
 pub fn listed(count: usize, entries: [u64; 24]) -> Tally
     ensures { result ≡ listed count entries }
 {
-    let b0 = best_of(entries, 0);
-    let b1 = best_of(entries, 1);
-    let b2 = best_of(entries, 2);
-    let b3 = best_of(entries, 3);
-    let b4 = best_of(entries, 4);
-    let b5 = best_of(entries, 5);
-    let b6 = best_of(entries, 6);
-    let b7 = best_of(entries, 7);
-    let bests = [b0, b1, b2, b3, b4, b5, b6, b7];
-    Tally {
-        count: count,
-        bests: bests,
+    let nothing = KeyBest {
+        best: Best::Nothing,
+    };
+    let mut bests = [nothing; 8];
+    for i in 0..8 {
+        bests[i] = best_of(entries, i);
     }
+    Tally { count, bests }
 }

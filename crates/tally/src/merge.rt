@@ -1,106 +1,95 @@
 // One reply merged into a tally (quorumread.rs, the match over the two best answers of a key).
-ghost use Rattle.std.specs.Prelude.{◌≡◌};
+ghost use Rattle.std.specs.Prelude.{◌≡◌, ℕ};
 ghost use Rattle.tally.specs.Merge as merging;
 
-use crate::{Best, Held, KeyBest, Merged, MergedKey, ReadAnswer, Tally};
+use crate::{Best, Conflict, Held, MergeError, Merged, ReadAnswer, Tally};
 
 // A reply with a slot and a value, over what is held.
-fn merge_value(held: Best, reply: Held) -> MergedKey
+fn merge_value(held: Best, reply: Held) -> Result<Best, Conflict>
     ensures { result ≡ merging.merge_value held reply }
 {
     match held {
-        Best::Nothing => MergedKey::Into(Best::Value(reply)),
-        Best::Slot(s) => {
-            if s <= reply.slot {
-                return MergedKey::Into(Best::Value(reply));
-            }
-            MergedKey::Into(held)
-        }
-        Best::Value(h) => {
-            if h.slot < reply.slot {
-                return MergedKey::Into(Best::Value(reply));
-            }
-            if h.slot != reply.slot {
-                return MergedKey::Into(held);
-            }
-            if h.value == reply.value {
-                return MergedKey::Into(held);
-            }
-            MergedKey::Conflict
-        }
+        Best::Nothing => Ok(Best::Value(reply)),
+        Best::Slot(s) if s <= reply.slot => Ok(Best::Value(reply)),
+        Best::Value(h) if h.slot < reply.slot => Ok(Best::Value(reply)),
+        Best::Value(h) if h.slot == reply.slot && h.value != reply.value => Err(Conflict),
+        _ => Ok(held),
     }
 }
 
 // A reply with a slot alone, over what is held.
-fn merge_slot(held: Best, slot: u64) -> MergedKey
+fn merge_slot(held: Best, slot: u64) -> Result<Best, Conflict>
     ensures { result ≡ merging.merge_slot held slot }
 {
     match held {
-        Best::Nothing => MergedKey::Into(Best::Slot(slot)),
-        Best::Slot(s) => {
-            if s < slot {
-                return MergedKey::Into(Best::Slot(slot));
-            }
-            MergedKey::Into(held)
-        }
-        Best::Value(h) => {
-            if h.slot < slot {
-                return MergedKey::Into(Best::Slot(slot));
-            }
-            MergedKey::Into(held)
-        }
+        Best::Nothing => Ok(Best::Slot(slot)),
+        Best::Slot(s) if s < slot => Ok(Best::Slot(slot)),
+        Best::Value(h) if h.slot < slot => Ok(Best::Slot(slot)),
+        _ => Ok(held),
     }
 }
 
 // A reply's best answer for a key, over what is held.
-pub fn merge_key(held: Best, reply: Best) -> MergedKey
+pub fn merge_key(held: Best, reply: Best) -> Result<Best, Conflict>
     ensures { result ≡ merging.merge_key held reply }
 {
     match reply {
-        Best::Nothing => MergedKey::Into(held),
+        Best::Nothing => Ok(held),
         Best::Slot(s) => merge_slot(held, s),
         Best::Value(h) => merge_value(held, h),
     }
 }
 
+impl MergeError {
+    // 01's number for it: 1, 10, 6 and 12.
+    pub fn number(self) -> u64
+        ensures { result ≡ merging.error_number self }
+    {
+        match self {
+            MergeError::HeldTooLong => 1,
+            MergeError::ReplyTooLong => 10,
+            MergeError::UnequalLengths => 6,
+            MergeError::Conflict => 12,
+        }
+    }
+}
+
+impl Tally {
+    // The merge ends here.
+    fn refused(self, error: MergeError) -> Merged
+        ensures { merging.numbered result ≡ record { answer = merging.error_number error; tally = self } }
+    {
+        Merged {
+            outcome: Err(error),
+            tally: self,
+        }
+    }
+}
+
 // A reply over what is held, key by key up to the first conflict.
+#[tactic(auto, unfolding(crate::specs::Merge::merge))]
 pub fn merge(mut held: Tally, reply: Tally) -> Merged
-    ensures { result ≡ merging.merge held reply }
+    ensures { merging.numbered result ≡ merging.merge held reply }
 {
     let n = held.count;
     if 8 < n {
-        return Merged {
-            answer: 1,
-            tally: held,
-        };
+        return held.refused(MergeError::HeldTooLong);
     }
     if 8 < reply.count {
-        return Merged {
-            answer: 10,
-            tally: held,
-        };
+        return held.refused(MergeError::ReplyTooLong);
     }
     if n != reply.count {
-        return Merged {
-            answer: 6,
-            tally: held,
-        };
+        return held.refused(MergeError::UnequalLengths);
     }
+    // Kept: by index, since `best_at`, by which the promise and the laws speak, is of a place in both tallies.
     for i in 0..n {
-        let ours = held.bests[i];
-        let theirs = reply.bests[i];
-        let known = ours.best;
-        let told = theirs.best;
-        let MergedKey::Into(best) = merge_key(known, told) else {
-            return Merged {
-                answer: 12,
-                tally: held,
-            };
+        let Ok(best) = merge_key(held.bests[i].best, reply.bests[i].best) else {
+            return held.refused(MergeError::Conflict);
         };
-        held.bests[i] = KeyBest { best: best };
+        held.bests[i].best = best;
     }
     Merged {
-        answer: 0,
+        outcome: Ok(()),
         tally: held,
     }
 }

@@ -1,9 +1,11 @@
 // The table of open reads, and one reply to one of them (quorumread.rs, handle_msg_read_query_reply).
-ghost use Rattle.std.specs.Prelude.{◌≡◌};
-ghost use Rattle.tally.specs.Open.{nothing_known, new_read, no_reads, find_read, open_read, close_read, put_read, fit_read, fit_reads, with_tally, with_ack, smaller, stays, replaced, quorum_closes, acknowledged, reply_to, stays_open};
+ghost use Rattle.std.specs.Prelude.{◌≡◌, ℕ};
+ghost use Rattle.tally.specs.Merge as merging;
+ghost use Rattle.tally.specs.Open.{nothing_known, new_read, no_reads, find_read, open_read, close_read, put_read, fit_read, fit_reads, with_tally, with_ack, stays, replaced, quorum_closes, acknowledged, reply_to};
+ghost use Rattle.tally.specs.Open.{open_number, numbered_open, numbered_reply};
 
 use crate::merge::merge;
-use crate::{Best, KeyBest, Merged, Opened, Read, Reads, Replied, Tally};
+use crate::{Best, KeyBest, Merged, OpenError, READS, Read, Reads, Replied, Tally};
 
 // A tally of so many keys with nothing known of any.
 pub fn nothing_known(count: usize) -> Tally
@@ -13,7 +15,7 @@ pub fn nothing_known(count: usize) -> Tally
         best: Best::Nothing,
     };
     Tally {
-        count: count,
+        count,
         bests: [nothing; 8],
     }
 }
@@ -22,13 +24,11 @@ pub fn nothing_known(count: usize) -> Tally
 fn new_read(id: u64, count: usize, keys: [u64; 8]) -> Read
     ensures { result ≡ new_read id count keys }
 {
-    let asked = batch::first_keys(count, keys);
-    let tally = nothing_known(count);
     Read {
-        id: id,
+        id,
         acks: 0,
-        keys: asked,
-        tally: tally,
+        keys: batch::first_keys(count, keys),
+        tally: nothing_known(count),
     }
 }
 
@@ -36,10 +36,21 @@ fn new_read(id: u64, count: usize, keys: [u64; 8]) -> Read
 pub fn no_reads() -> Reads
     ensures { result ≡ no_reads }
 {
-    let null = new_read(0, 0, [0; 8]);
     Reads {
         count: 0,
-        reads: [null; 16],
+        reads: [new_read(0, 0, [0; 8]); READS],
+    }
+}
+
+impl OpenError {
+    // 01's number for it: 10 and 11.
+    pub fn number(self) -> u64
+        ensures { result ≡ open_number self }
+    {
+        match self {
+            OpenError::Outside => 10,
+            OpenError::Full => 11,
+        }
     }
 }
 
@@ -49,80 +60,51 @@ impl Reads {
         ensures { result ≡ find_read self id }
     {
         let n = self.count;
-        if 16 < n {
+        if READS < n {
             return n;
         }
-        for i in 0..n {
-            if self.reads[i].id == id {
-                return i;
-            }
-        }
-        n
+        self.reads[..n]
+            .iter()
+            .position(|read| read.id == id)
+            .unwrap_or(n)
     }
 
-    // The table with one read more.
-    pub fn open_read(mut self, id: u64, count: usize, keys: [u64; 8]) -> Opened
-        ensures { result ≡ open_read self id count keys }
+    // One read more, at the end of the table; a read that is refused leaves the table as it was.
+    #[tactic(auto, unfolding(crate::specs::Open::open_read))]
+    pub fn open_read(&mut self, id: u64, count: usize, keys: [u64; 8]) -> Result<(), OpenError>
+        ensures { numbered_open result self.new ≡ open_read self.old id count keys }
     {
-        if count == 0 {
-            return self.refused(10);
-        }
-        if 8 < count {
-            return self.refused(10);
-        }
         let n = self.count;
-        let at = self.find(id);
-        if at < n {
-            return self.refused(10);
+        if count == 0 || 8 < count || self.find(id) < n {
+            return Err(OpenError::Outside);
         }
-        if 16 <= n {
-            return self.refused(11);
+        if READS <= n {
+            return Err(OpenError::Full);
         }
-        let read = new_read(id, count, keys);
-        self.reads[n] = read;
-        self.count = n + 1;
-        Opened {
-            answer: 0,
-            reads: self,
-        }
-    }
-
-    fn refused(self, answer: u64) -> Opened
-        ensures { result ≡ record { answer = answer; reads = self } }
-    {
-        Opened {
-            answer: answer,
-            reads: self,
-        }
+        self.reads[n] = new_read(id, count, keys);
+        self.count += 1;
+        Ok(())
     }
 
     // The table without the read at a place: the last one takes it.
+    #[tactic(auto, unfolding(crate::specs::Open::close_read))]
     pub fn close(mut self, at: usize) -> Reads
         ensures { result ≡ close_read self at }
     {
-        let n = self.count;
-        if 16 < n {
+        if READS < self.count || self.count <= at {
             return self;
         }
-        if n <= at {
-            return self;
-        }
-        let end = n - 1;
-        let last = self.reads[end];
-        self.reads[at] = last;
-        self.count = end;
+        self.count -= 1;
+        self.reads[at] = self.reads[self.count];
         self
     }
 
     // The table with the read at a place written anew.
+    #[tactic(auto, unfolding(crate::specs::Open::put_read))]
     pub fn put(mut self, at: usize, read: Read) -> Reads
         ensures { result ≡ put_read self at read }
     {
-        let n = self.count;
-        if 16 < n {
-            return self;
-        }
-        if n <= at {
+        if READS < self.count || self.count <= at {
             return self;
         }
         self.reads[at] = read;
@@ -133,16 +115,12 @@ impl Reads {
     pub fn is_fit(self, group: u64) -> bool
         ensures { result ≡ fit_reads group self }
     {
-        if 16 < self.count {
+        if READS < self.count {
             return false;
         }
-        for i in 0..self.count {
-            let read = self.reads[i];
-            if !read.is_fit(group) {
-                return false;
-            }
-        }
-        true
+        self.reads[..self.count]
+            .iter()
+            .all(|read| read.is_fit(group))
     }
 }
 
@@ -151,115 +129,83 @@ impl Read {
     fn is_fit(self, group: u64) -> bool
         ensures { result ≡ fit_read group self }
     {
-        if 8 < self.tally.count {
-            return false;
-        }
-        members::within(self.acks, group)
+        self.tally.count <= 8 && members::within(self.acks, group)
     }
 
-    fn with_tally(mut self, tally: Tally) -> Read
+    fn with_tally(self, tally: Tally) -> Read
         ensures { result ≡ with_tally self tally }
     {
-        self.tally = tally;
-        self
+        Read { tally, ..self }
     }
 
-    fn with_ack(mut self, peer: u64) -> Read
+    fn with_ack(self, peer: u64) -> Read
         ensures { result ≡ with_ack self peer }
     {
-        let acks = members::with(self.acks, peer);
-        self.acks = acks;
-        self
+        Read {
+            acks: members::with(self.acks, peer),
+            ..self
+        }
     }
 
     // The read stays open.
-    fn stay(self, answer: u64) -> Replied
-        ensures { result ≡ stays answer self }
+    fn stay(self) -> Replied
+        ensures { numbered_reply result ≡ stays 0 self }
     {
         Replied {
-            answer: answer,
-            closes: false,
-            answers: 0,
+            outcome: Ok(None),
             read: self,
         }
     }
 
     // The reply's list answers, for as many keys as both lists have.
     fn replace(self, reply: Tally) -> Replied
-        ensures { result ≡ replaced self reply }
+        ensures { numbered_reply result ≡ replaced self reply }
     {
-        let held = self.tally;
-        let answers = smaller_of(held.count, reply.count);
-        let read = self.with_tally(reply);
+        let answers = self.tally.count.min(reply.count);
         Replied {
-            answer: 0,
-            closes: true,
-            answers: answers,
-            read: read,
+            outcome: Ok(Some(answers)),
+            read: self.with_tally(reply),
         }
     }
 
     // A quorum answers for every key, and fewer wait.
     fn weigh(self, quorum: u64) -> Replied
-        ensures { result ≡ quorum_closes quorum self }
+        ensures { numbered_reply result ≡ quorum_closes quorum self }
     {
-        let acknowledged = members::count(self.acks);
-        if acknowledged < quorum {
-            return self.stay(0);
+        if members::count(self.acks) < quorum {
+            return self.stay();
         }
-        let tally = self.tally;
         Replied {
-            answer: 0,
-            closes: true,
-            answers: tally.count,
+            outcome: Ok(Some(self.tally.count)),
             read: self,
         }
     }
 
     // The merge is done: the sender is acknowledged unless there was a conflict.
     fn acknowledge(self, quorum: u64, peer: u64, merged: Merged) -> Replied
-        ensures { result ≡ acknowledged quorum peer self merged }
+        ensures { numbered_reply result ≡ acknowledged quorum peer self (merging.numbered merged) }
     {
-        let tally = merged.tally;
-        let read = self.with_tally(tally);
-        if merged.answer != 0 {
-            return read.stay(merged.answer);
+        let read = self.with_tally(merged.tally);
+        match merged.outcome {
+            Ok(()) => read.with_ack(peer).weigh(quorum),
+            Err(error) => Replied {
+                outcome: Err(error),
+                read,
+            },
         }
-        let next = read.with_ack(peer);
-        next.weigh(quorum)
     }
-}
-
-fn smaller_of(a: usize, b: usize) -> usize
-    ensures { result ≡ smaller a b }
-{
-    if a < b {
-        return a;
-    }
-    b
 }
 
 // One reply to one open read.
+#[tactic(auto, unfolding(crate::specs::Open::reply_to))]
 pub fn reply_to(quorum: u64, peer: u64, from_leader: bool, reply: Tally, read: Read) -> Replied
-    ensures { result ≡ reply_to quorum peer from_leader reply read }
+    ensures { numbered_reply result ≡ reply_to quorum peer from_leader reply read }
 {
     if from_leader {
         return read.replace(reply);
     }
     if members::contains(read.acks, peer) {
-        return read.stay(0);
+        return read.stay();
     }
-    let held = read.tally;
-    let merged = merge(held, reply);
-    read.acknowledge(quorum, peer, merged)
-}
-
-// Whether the read is kept as the reply leaves it: done, or a conflict.
-pub fn stays_open(answer: u64) -> bool
-    ensures { result ≡ stays_open answer }
-{
-    if answer == 0 {
-        return true;
-    }
-    answer == 12
+    read.acknowledge(quorum, peer, merge(read.tally, reply))
 }

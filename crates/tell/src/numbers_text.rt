@@ -1,22 +1,20 @@
 // `S` and 18 numbers, 19 for a strict replica; `F` and the summary's two; `P` member bar, for each entry of the peer accept table.
-ghost use Rattle.std.specs.Prelude.{◌<◌};
-
-use crate::text::{line, number_of};
-use decide::{PeerBars, Scalars};
+use crate::page::Page;
+use decide::PeerBars;
+use replica::Replica;
 use window::Summary;
 
 // The numbers, with those of slots, keys and reads; the last, of the strict kind alone, is the leader's trigger.
-fn numbers_row(sc: Scalars, slots: usize, keys: usize, reads: usize) -> [u64; 19] {
-    let quorum = sc.quorum();
-    let urgent = number_of(sc.urgent());
-    let disallowed = number_of(sc.disallowed());
-    [
+pub(crate) fn numbers(page: &mut Page<'_>, r: &Replica) {
+    let sc = r.sc;
+    page.byte(b'S');
+    page.numbers(&[
         sc.id,
         sc.group,
-        quorum,
+        sc.quorum(),
         sc.start,
-        urgent,
-        disallowed,
+        u64::from(sc.urgent()),
+        u64::from(sc.disallowed()),
         sc.leader,
         sc.bal_prep_sent,
         sc.bal_prepared,
@@ -26,57 +24,26 @@ fn numbers_row(sc: Scalars, slots: usize, keys: usize, reads: usize) -> [u64; 19
         sc.exec_bar,
         sc.wal_offset,
         sc.peer_accept_max,
-        slots as u64,
-        keys as u64,
-        reads as u64,
-        sc.lead_trigger,
-    ]
-}
-
-pub(crate) fn numbers(
-    text: &mut [u8],
-    at: usize,
-    sc: Scalars,
-    slots: usize,
-    keys: usize,
-    reads: usize,
-) -> usize {
-    let row = numbers_row(sc, slots, keys, reads);
+        r.window.len as u64,
+        r.keys.count as u64,
+        r.reads.count as u64,
+    ]);
     if sc.strict() {
-        return line(text, at, b'S', &row);
+        page.numbers(&[sc.lead_trigger]);
     }
-    line(text, at, b'S', &row[0..18])
+    page.byte(b'\n');
 }
 
 // The summary, asked as a host asks it.
-pub(crate) fn summary(text: &mut [u8], at: usize, known: Summary) -> usize {
-    let first = known.first_open();
-    let accepting = known.count_accepting();
-    let row = [first, accepting];
-    line(text, at, b'F', &row)
+pub(crate) fn summary(page: &mut Page<'_>, known: Summary) {
+    page.line(b'F', &[known.first_open(), known.count_accepting()]);
 }
 
-// The entry of member m; self's only once it has one.
-fn bar(text: &mut [u8], at: usize, sc: Scalars, bars: PeerBars, m: usize) -> usize
-    requires { m < 9 }
-{
-    let member = m as u64;
-    if sc.group <= member {
-        return at;
-    }
-    if member == sc.id {
-        if !bars.own {
-            return at;
+// The entry of each member of the group; self's only once it has one.
+pub(crate) fn bars(page: &mut Page<'_>, id: u64, group: u64, table: &PeerBars) {
+    for (member, bar) in (0..group).zip(table.bars) {
+        if member != id || table.own {
+            page.line(b'P', &[member, bar]);
         }
     }
-    let row = [member, bars.bars[m]];
-    line(text, at, b'P', &row)
-}
-
-pub(crate) fn bars(text: &mut [u8], at: usize, sc: Scalars, table: PeerBars) -> usize {
-    let mut next = at;
-    for m in 0..9 {
-        next = bar(text, next, sc, table, m);
-    }
-    next
 }

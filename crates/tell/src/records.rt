@@ -2,50 +2,66 @@
 use crate::actions_text::actions;
 use crate::keys_text::keys;
 use crate::numbers_text::{bars, numbers, summary};
+use crate::page::Page;
 use crate::reads_text::reads;
 use crate::slots_text::slots;
-use play::{Run, line_of, play_at, put_row};
-use replica::{Handled, Replica};
-use words::put_byte;
+use feed::{Taker, WriteFailed};
+use play::{line_of, play_at};
+use replica::Replica;
+use std::io::Write;
+
+// What tells the records: how many were told, the replica after them, the lent room of their actions, the text, and where it goes.
+#[derive(Drop)]
+pub(crate) struct Teller<'a, 'b, W, E> {
+    pub(crate) number: u64,
+    pub(crate) replica: Replica,
+    pub(crate) room: &'a mut [u64],
+    pub(crate) page: &'a mut Page<'b>,
+    pub(crate) writer: &'a mut W,
+    pub(crate) errors: &'a E,
+}
 
 // The replica: `Z` alone if there is none yet.
-fn state(text: &mut [u8], at: usize, r: Replica) -> usize {
+fn state(page: &mut Page<'_>, r: &Replica) {
     let sc = r.sc;
     if sc.group == 0 {
-        let z = put_byte(text, at, b'Z');
-        return put_byte(text, z, b'\n');
+        page.byte(b'Z');
+        page.byte(b'\n');
+        return;
     }
-    let window = r.window;
-    let table = r.keys;
-    let open = r.reads;
-    let entries = r.bars;
-    let known = r.summary;
-    let f = numbers(text, at, sc, window.len, table.count, open.count);
-    let p = summary(text, f, known);
-    let i = bars(text, p, sc, entries);
-    let k = slots(text, i, sc, window);
-    let q = keys(text, k, table);
-    reads(text, q, open)
+    numbers(page, r);
+    summary(page, r.summary);
+    bars(page, sc.id, sc.group, &r.bars);
+    slots(page, sc.strict(), sc.start, &r.window);
+    keys(page, &r.keys);
+    reads(page, r.reads);
 }
 
-fn handled(text: &mut [u8], at: usize, room: &[u64], number: u64, h: Handled) -> usize {
-    let line = line_of(number, h);
-    let a = put_row(text, at, &line);
-    let s = actions(text, a, room, h.count);
-    let after = h.replica;
-    state(text, s, after)
+// Plays a record and tells it; the replica after it.
+fn told(
+    number: u64,
+    replica: Replica,
+    room: &mut [u64],
+    bytes: &[u8],
+    page: &mut Page<'_>,
+) -> Replica {
+    let h = play_at(replica, room, bytes, 0);
+    page.row(&line_of(number, h.answer(), h.count(), h.replica.sc));
+    actions(page, room, h.count());
+    state(page, &h.replica);
+    h.replica
 }
 
-// Plays the record that begins at a place, and tells it.
-pub(crate) fn tell_at(run: Run, room: &mut [u64], bytes: &[u8], at: usize, text: &mut [u8]) -> Run {
-    let before = run.replica;
-    let h = play_at(before, room, bytes, at);
-    let number = run.number.wrapping_add(1);
-    let place = handled(text, run.place, room, number, h);
-    let after = h.replica;
-    Run {
-        number: number,
-        place: place,
-        replica: after,
+impl<'a, 'b, W: Write, E: Eprint> Taker for Teller<'a, 'b, W, E> {
+    // Each record, a record begun too, which is short. The text is written where the next might not fit: none has 150,000 bytes.
+    fn take_block(&mut self, block: &[u8]) -> Result<(), WriteFailed> {
+        for bytes in block.chunks(256) {
+            self.number = self.number.wrapping_add(1);
+            self.replica = told(self.number, self.replica, self.room, bytes, self.page);
+            if 30000 <= self.page.at {
+                self.page.write(self.writer, self.errors)?;
+            }
+        }
+        self.page.write(self.writer, self.errors)
     }
 }

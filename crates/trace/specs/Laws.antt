@@ -211,6 +211,12 @@ module _ (r : Record) (right : Bool) where
           unfolding malformed
           by_tags h = rw (s, le-ltb 11 r.kind k, le-ltb 8 r.count n, u, eq-eqb r.kind 11 h)
 
+-- a number of no kind decides by itself
+pub bad_number : (r : Record) (right : Bool) → 11 < r.kind → malformed r right ≡ true
+unfolding malformed
+bad_number r true h = rw (lt-ltb 11 r.kind h)
+bad_number r false h = refl
+
 -- what is known of a record that is not malformed
 pub record WellFormed (r : Record) (right : Bool) : Type 0 where
   pub summed : right ≡ true

@@ -1,10 +1,11 @@
 // What makes a record malformed: its sum, and numbers that no record has.
 ghost use Rattle.std.specs.Prelude.{◌≡◌, ◌≤◌};
+ghost use Rattle.trace.specs.Kinds.{number_of};
 ghost use Rattle.trace.specs.Records.{sum_right, sum_written, sub_known, bad_tag, malformed};
 
-use crate::Record;
+use crate::{Kind, Record};
 
-// Whether a whole record begins at a place and holds the sum of its other words.
+/// Whether a whole record begins at a place and holds the sum of its other words.
 pub fn sum_is_right(bytes: &[u8], at: usize) -> bool
     ensures { result ≡ sum_right bytes.now at }
 {
@@ -19,7 +20,7 @@ pub fn sum_is_right(bytes: &[u8], at: usize) -> bool
     told == due
 }
 
-// Writes the sum of the other words into the record that begins at a place; changes nothing where there are not 256 bytes.
+/// Writes the sum of the other words into the record that begins at a place; changes nothing where there are not 256 bytes.
 pub fn write_sum(bytes: &mut [u8], at: usize)
     ensures { bytes.new ≡ sum_written bytes.old at }
 {
@@ -33,50 +34,35 @@ pub fn write_sum(bytes: &mut [u8], at: usize)
     words::put_word(bytes, at + 4, sum);
 }
 
-// Whether a record is malformed (13), given whether its sum is right.
+/// Whether a record is malformed (13), given whether its sum is right.
 pub fn is_malformed(rec: Record, right: bool) -> bool
     ensures { result ≡ malformed rec right }
 {
-    if !right {
+    let Ok(kind) = Kind::try_from(rec.kind) else {
+        return true;
+    };
+    if !right || 8 < rec.count || !sub_known(kind, rec.sub) {
         return true;
     }
-    if 11 < rec.kind {
-        return true;
+    match kind {
+        Kind::ReadReply => bad_tag(&rec.entries, rec.count),
+        _ => false,
     }
-    if 8 < rec.count {
-        return true;
-    }
-    if !sub_known(rec.kind, rec.sub) {
-        return true;
-    }
-    if rec.kind != 11 {
-        return false;
-    }
-    let entries = rec.entries;
-    bad_tag(entries, rec.count)
 }
 
-fn sub_known(kind: u64, sub: u64) -> bool
-    ensures { result ≡ sub_known kind sub }
+fn sub_known(kind: Kind, sub: u64) -> bool
+    ensures { result ≡ sub_known (number_of kind) sub }
 {
-    if kind == 2 {
-        return sub <= 1;
+    match kind {
+        Kind::PrepareReply | Kind::ReadReply => sub <= 1,
+        Kind::Logged => matches!(sub, 1..=3),
+        _ => true,
     }
-    if kind == 11 {
-        return sub <= 1;
-    }
-    if kind == 8 {
-        if sub < 1 {
-            return false;
-        }
-        return sub <= 3;
-    }
-    true
 }
 
-fn bad_tag(entries: [u64; 24], count: usize) -> bool
+fn bad_tag(entries: &[u64; 24], count: usize) -> bool
     requires { count ≤ 8 }
-    ensures { result ≡ bad_tag count entries }
+    ensures { result ≡ bad_tag count entries.now }
 {
     for i in 0..count {
         if 2 < entries[3 * i] {

@@ -4,7 +4,7 @@ ghost use Rattle.trace.specs.Records.{next_at};
 
 use crate::Next;
 
-// What stands at a place.
+/// What stands at a place.
 pub fn next_record(bytes: &[u8], at: usize) -> Next
     ensures { result ≡ next_at bytes.now at }
 {

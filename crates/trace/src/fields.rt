@@ -4,7 +4,7 @@ ghost use Rattle.trace.specs.Records.{fields_at, record_at, no_record, numbers_a
 
 use crate::Record;
 
-// The record that begins at a place; all zero where there are not 256 bytes.
+/// The record that begins at a place; all zero where there are not 256 bytes.
 pub fn record_at(bytes: &[u8], at: usize) -> Record
     ensures { result ≡ record_at bytes.now at }
 {
@@ -21,12 +21,11 @@ fn whole_record(bytes: &[u8], at: usize) -> Record
     requires { at + 256 ≤ length bytes.now }
     ensures { result ≡ fields_at bytes.now at }
 {
-    let entries = numbers(bytes, at + 64);
     Record {
-        kind: wide(bytes[at]),
-        peer: wide(bytes[at + 1]),
-        sub: wide(bytes[at + 2]),
-        count: index(bytes[at + 3]),
+        kind: u64::from(bytes[at]),
+        peer: u64::from(bytes[at + 1]),
+        sub: u64::from(bytes[at + 2]),
+        count: usize::from(bytes[at + 3]),
         slot: words::number_at(bytes, at + 8),
         trigger: words::number_at(bytes, at + 16),
         endprep: words::number_at(bytes, at + 24),
@@ -34,7 +33,7 @@ fn whole_record(bytes: &[u8], at: usize) -> Record
         voted: words::number_at(bytes, at + 40),
         batch: words::number_at(bytes, at + 48),
         bar: words::number_at(bytes, at + 56),
-        entries: entries,
+        entries: numbers(bytes, at + 64),
     }
 }
 
@@ -52,7 +51,7 @@ fn numbers(bytes: &[u8], at: usize) -> [u64; 24]
 fn no_record() -> Record
     ensures { result ≡ no_record }
 {
-    let entries = [0u64; 24];
+    // Kept: tried with a derived `Default`, and the proof didn't close: it promises each of the 24 numbers alone, `no_record` the list.
     Record {
         kind: 0,
         peer: 0,
@@ -65,26 +64,13 @@ fn no_record() -> Record
         voted: 0,
         batch: 0,
         bar: 0,
-        entries: entries,
+        entries: [0; 24],
     }
 }
 
-// The first number of each entry: the keys, in the kinds that have keys.
+/// The first number of each entry: the keys, in the kinds that have keys.
 pub fn keys_of(rec: Record) -> [u64; 8]
     ensures { result ≡ keys_of rec }
 {
-    let e = rec.entries;
-    [e[0], e[3], e[6], e[9], e[12], e[15], e[18], e[21]]
-}
-
-fn wide(byte: u8) -> u64
-    ensures { result ≡ byte }
-{
-    byte as u64
-}
-
-fn index(byte: u8) -> usize
-    ensures { result ≡ byte }
-{
-    byte as usize
+    std::array::from_fn(|i| rec.entries[3 * i])
 }

@@ -4,14 +4,17 @@
 mod check;
 mod cursor;
 mod fields;
+mod kind;
 
 pub use check::{is_malformed, sum_is_right, write_sum};
 pub use cursor::next_record;
 pub use fields::{keys_of, record_at};
+pub use kind::{Kind, UnknownKind};
 
-// A record's numbers. An entry is three of `entries`: key, 0, 0, or tag, slot, value.
-#[derive(Clone, Copy)]
+/// A record's numbers. An entry is three of `entries`: key, 0, 0, or tag, slot, value.
+#[derive(Clone, Copy, Debug, PartialEq, Eq)]
 pub struct Record {
+    // Kept: `is_malformed` takes a record of any kind, and says which are malformed.
     pub kind: u64,
     pub peer: u64,
     pub sub: u64,
@@ -26,8 +29,8 @@ pub struct Record {
     pub entries: [u64; 24],
 }
 
-// What stands at a place of a trace: a whole record, which begins there and ends 256 on; 1 to 255 bytes; or nothing.
-#[derive(Clone, Copy)]
+/// What stands at a place of a trace: a whole record, which begins there and ends 256 on; 1 to 255 bytes; or nothing.
+#[derive(Clone, Copy, Debug, PartialEq, Eq)]
 pub enum Next {
     Whole(usize),
     Short,

@@ -19,7 +19,7 @@ use Rattle.window.specs.Window.{slot_at, put_slot, sweep, grown, no_slots, first
 use Rattle.window.specs.Places.{size, filled_low, filled_most, sweep_each}
 use Rattle.window.specs.ByPlace.{at_place, put_cases, sweep_cases, grown_at, at_here, at_past, at_present}
 use Rattle.replica.specs.declared.Replica.{Replica}
-use Rattle.replica.specs.declared.Made.{Made}
+use Rattle.replica.specs.Seen.{Made}
 use Rattle.replica.specs.declared.Done.{Done}
 use Rattle.replica.specs.Record.{place, new_replica, fresh, zero_replica}
 use Rattle.replica.specs.Messages.{clean_reply, prepare_book}

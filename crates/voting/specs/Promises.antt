@@ -16,7 +16,7 @@ use Rattle.actions.specs.declared.Says.TheVariants.{One, Two}
 use Rattle.actions.specs.declared.Action.TheVariants.{AcceptData, StatusDown}
 use Rattle.actions.specs.Actions.{Act, act, says_acts}
 use Rattle.decide.specs.declared.Scalars.{Scalars}
-use Rattle.decide.specs.declared.Decided.{Decided}
+use Rattle.decide.specs.Decide.{Decided}
 use Rattle.decide.specs.Scalars.{is_peer, steps_down, followed}
 use Rattle.decide.specs.Decide.{names_other, decide_accept, decide_offer, proposal}
 use Rattle.window.specs.declared.Window.{Window}

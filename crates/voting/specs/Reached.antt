@@ -20,7 +20,7 @@ use Rattle.window.specs.Window.{slot_at, put_slot, sweep, grown, no_slots, first
 use Rattle.window.specs.Places.{filled_most, filled_has, sweep_long}
 use Rattle.window.specs.ByPlace.{at_place, put_keeps, put_cases, sweep_keeps, sweep_cases, grown_at, at_here, at_past}
 use Rattle.replica.specs.declared.Replica.{Replica}
-use Rattle.replica.specs.declared.Made.{Made}
+use Rattle.replica.specs.Seen.{Made}
 use Rattle.replica.specs.declared.Done.{Done}
 use Rattle.replica.specs.Record.{place, new_replica, fresh, zero_replica}
 use Rattle.replica.specs.Fit.{fit, ready}

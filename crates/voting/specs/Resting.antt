@@ -27,7 +27,7 @@ use Rattle.window.specs.Acts.{redo_acts, mark_acts, pass_acts}
 use Rattle.window.specs.Places.{size, filled_low, filled_has, filled_long, filled_most}
 use Rattle.window.specs.ByPlace.{at_place, at_here, at_past, at_present, put_cases, put_keeps, put_elsewhere, sweep_cases, sweep_keeps, sweep_at, grown_at}
 use Rattle.replica.specs.declared.Replica.{Replica}
-use Rattle.replica.specs.declared.Made.{Made}
+use Rattle.replica.specs.Seen.{Made}
 use Rattle.replica.specs.declared.Done.{Done}
 use Rattle.replica.specs.declared.Entry.{Entry}
 use Rattle.replica.specs.declared.Entry.TheVariants.{PrepareBal}

@@ -19,7 +19,7 @@ use Rattle.window.specs.Places.{filled_has, filled_most}
 use Rattle.window.specs.ByPlace.{at_place, sweep_cases, sweep_at, at_here, at_past}
 use Rattle.window.specs.Acts.{promise}
 use Rattle.replica.specs.declared.Replica.{Replica}
-use Rattle.replica.specs.declared.Made.{Made}
+use Rattle.replica.specs.Seen.{Made}
 use Rattle.replica.specs.declared.Done.{Done}
 use Rattle.replica.specs.Record.{Outcome, place, new_replica, fresh, zero_replica}
 use Rattle.replica.specs.Messages.{clean_reply, prepare_book}

@@ -1,18 +1,20 @@
 -- Each way through the test of who counts, where its numbers are places of the window and where they are not.
-use Rattle.std.specs.Prelude.{◌≡◌, Bool, true, false, not, ℕ, ◌+◌, ◌-◌, ◌≤◌, ◌<◌, leb, eqb}
+use Rattle.std.specs.Prelude.{◌≡◌, Bool, true, false, not, length, ℕ, ◌+◌, ◌-◌, ◌≤◌, ◌<◌, leb, eqb}
 use Rattle.std.proofs.Math.Path.{sym}
-use Rattle.std.proofs.Common.{◌∙◌, arith}
+use Rattle.std.specs.List.{list_any}
+use Rattle.std.proofs.Common.{◌∙◌, ⊎_elim, arith}
 use Rattle.std.proofs.Math.Bool.{and-false}
 use borrow.Author.Tests.{le-leb, lt-leb, lt-ltb, le-ltb}
-use Rattle.base.specs.Find.{any_self, any_more, any_found}
+use Rattle.base.specs.Find.{any_none}
+use Rattle.base.specs.Spans.{span, any_span}
 use Rattle.members.specs.Sets.{has}
-use Rattle.slots.specs.Slots.{lacks_note}
+use Rattle.slots.specs.Slots.{no_slot, lacks_note}
 use Rattle.decide.specs.declared.Scalars.{Scalars}
 use Rattle.decide.specs.declared.Reply.{Reply}
 use Rattle.decide.specs.Scalars.{strict}
 use Rattle.window.specs.declared.Window.{Window}
 use Rattle.window.specs.Window.{slot_at}
-use Rattle.window.specs.Laws.{any_end}
+use Rattle.window.specs.BoundedLaws.{Nowhere}
 use Rattle.window.specs.Counting.{lacking, counts, lacking_in, counts_in}
 
 module _ (w : Window) (peer from : ℕ) where
@@ -24,21 +26,13 @@ module _ (w : Window) (peer from : ℕ) where
   unfolding lacking_in
   lacking_in_lem to h = rw (le-leb to 64 h)
 
-  pub lacking_self : lacking w peer from from ≡ false
-  unfolding lacking
-  lacking_self = any_self (λ k. lacks_note peer (slot_at w k)) from
+  pub lacking_nowhere : (to : ℕ) → Nowhere from to → false ≡ lacking_in w peer from to
+  unfolding lacking_in lacking
+  lacking_nowhere to = ⊎_elim (λ h. rw (lt-leb to 64 h)) (λ h. rw (any_none (λ i. lacks_note peer (slot_at w i)) from to h.1, and-false (leb to 64)))
 
-  pub lacking_more : (i : ℕ) → from ≤ i → lacking w peer from i ≡ false → lacks_note peer (slot_at w i) ≡ false → lacking w peer from (i + 1) ≡ false
+  pub lacking_span : (to : ℕ) → length w.slots ≡ 64 → to ≤ 64 → list_any (lacks_note peer) (span from to w.slots) ≡ lacking_in w peer from to
   unfolding lacking
-  lacking_more i h e n = any_more (λ k. lacks_note peer (slot_at w k)) from i h e n
-
-  pub lacking_found : (i to : ℕ) → from ≤ i → i < to → to ≤ 64 → lacks_note peer (slot_at w i) ≡ true → true ≡ lacking_in w peer from to
-  unfolding lacking
-  lacking_found i to a b h n = sym (lacking_in_lem to h ∙ any_found (λ k. lacks_note peer (slot_at w k)) from i to a b n)
-
-  pub lacking_end : (i to : ℕ) → from ≤ i → to ≤ i → i - from ≤ to - from → to ≤ 64 → lacking w peer from i ≡ false → false ≡ lacking_in w peer from to
-  unfolding lacking
-  lacking_end i to a b c h e = any_end (λ k. lacks_note peer (slot_at w k)) from i to a b c e ∙ sym (lacking_in_lem to h)
+  lacking_span to l h = sym (any_span (lacks_note peer) no_slot w.slots from to (omega arith)) ∙ sym (lacking_in_lem to h)
 
 module _ (sc : Scalars) (w : Window) (j peer : ℕ) (m : Reply) where
   pub counts_long : 64 < w.len → false ≡ counts_in sc w j peer m

@@ -1,11 +1,11 @@
 -- How the summary is kept: what becomes of its two numbers in each kind of change, from small values alone. That this is the walk is SummaryLaws.
-use Rattle.std.specs.Prelude.{Bool, false, true, ◌&&◌, ℕ, ◌+◌, ◌-◌, ltb, leb, eqb}
+use Rattle.std.specs.Prelude.{Option, Some, None, Bool, false, true, ◌&&◌, ℕ, ◌+◌, ◌-◌, ltb, leb, eqb}
 use Rattle.base.specs.Pick.{pick}
 use Rattle.base.specs.HowMany.{how_many}
 use Rattle.slots.specs.Slots.{accepting, committed}
 use Rattle.window.specs.declared.Window.{Window}
 use Rattle.window.specs.declared.Summary.{Summary}
-use Rattle.window.specs.declared.Survey.{Survey}
+use Rattle.window.specs.declared.Survey as code
 use Rattle.window.specs.Window.{fit_slots, first_open}
 use Rattle.window.specs.Summary.{has_status}
 
@@ -37,7 +37,12 @@ prepared_from strict s trigger below = record { first = pick strict s.first (low
 unfoldable pub counted_in : Window → ℕ → ℕ → ℕ → ℕ
 counted_in w status from to = pick (leb to 64) (how_many (has_status w status) from to) 0
 
--- one pass over the slots in use: whether all are fit, the place of the first open one, and how many from a place on are Accepting
+-- what one pass over the slots in use finds: whether all are fit, the place of the first open one, and how many from a place on are Accepting
+pub record Survey : Type 0 where
+  pub fit : Bool
+  pub first : ℕ
+  pub accepting : ℕ
+
 abbrev pub no_survey : Survey
 no_survey = record { fit = false; first = 0; accepting = 0 }
 
@@ -45,3 +50,8 @@ unfoldable pub surveyed : ℕ → ℕ → Window → Survey
 surveyed group from w =
     pick (leb w.len 64 && fit_slots group w) (record { fit = true; first = first_open w; accepting = how_many (has_status w accepting) from w.len })
     no_survey
+
+-- what the code hands back of it: nothing where they are not all fit
+abbrev pub survey_of : Option code.Survey → Survey
+survey_of None = no_survey
+survey_of (Some s) = record { fit = true; first = s.first; accepting = s.accepting }

@@ -1,29 +1,30 @@
 -- Each way through the functions that keep the summary, and the turns of the one pass and of a count.
-use Rattle.std.specs.Prelude.{◌≡◌, refl, Bool, true, false, not, ◌&&◌, ℕ, ◌+◌, ◌-◌, ◌≤◌, ◌<◌, ltb, leb, eqb}
+use Rattle.std.specs.Prelude.{◌≡◌, refl, Option, Some, None, length, min, Bool, true, false, not, ◌&&◌, ℕ, ◌+◌, ◌≤◌, ◌<◌, ltb, leb, eqb}
+use Rattle.std.specs.List.{filter}
+use mir.Val.{bool_byte}
 use Rattle.std.proofs.Math.Path.{sym}
-use Rattle.std.proofs.Common.{◌∙◌, arith, le-leb, lt-ltb, le-ltb, eq-eqb, ne_eqb}
+use Rattle.std.proofs.Common.{ap, ◌∙◌, ⊎_elim, arith, le-leb}
 use Rattle.std.proofs.Math.Bool.{and-false}
 use Rattle.std.proofs.lemmas.Bool.{lt-leb}
-use Rattle.base.specs.Pick.{pick, one, pick_cases, tests}
+use Rattle.base.specs.Pick.{pick, one, pick_cases, clash, tests}
 use Rattle.base.specs.Scan.{scan, scan_more}
 use Rattle.base.specs.Find.{any}
 use Rattle.base.specs.HowMany.{how_many, how_many_none, how_many_more, how_many_before, one_few}
-use Rattle.slots.specs.Slots.{fit_slot}
+use Rattle.base.specs.Spans.{span, how_many_span}
+use Rattle.slots.specs.declared.Slot.{Slot}
+use Rattle.slots.specs.Slots.{no_slot, fit_slot}
 use Rattle.window.specs.declared.Window.{Window}
 use Rattle.window.specs.declared.Summary.{Summary}
-use Rattle.window.specs.declared.Survey.{Survey}
 use Rattle.window.specs.Window.{slot_at, fit_slots, first_open}
 use Rattle.window.specs.Summary.{has_status}
-use Rattle.window.specs.Kept.{lowered, recounted, changed, is_passed, prepared_from, counted_in, no_survey, surveyed}
-use Rattle.window.specs.Laws.{range_end, unfit_slot, slots_found, slots_done}
+use Rattle.window.specs.declared.Survey as code
+use Rattle.window.specs.Kept.{Survey, survey_of, lowered, recounted, changed, prepared_from, counted_in, no_survey, surveyed}
+use Rattle.window.specs.BoundedLaws.{Nowhere}
+use Rattle.window.specs.Laws.{unfit_slot, slots_found, slots_done}
 
 -- ── small values ──
-module _ (s : Summary) (slot now : ℕ) where
-  pub passed_other : (slot ≡ s.first → ⊥) → false ≡ is_passed s slot now
-  passed_other h = rw (ne_eqb slot s.first h)
-
-  pub passed_last : slot ≡ s.first → leb 3 now ≡ is_passed s slot now
-  passed_last h = rw (eq-eqb slot s.first h)
+pub min_lowered : (first slot : ℕ) → min first slot ≡ lowered first slot
+min_lowered first slot = pick_cases (λ (x : ℕ). min first slot ≡ x) (ltb slot first) (λ t. omega (arith, tests)) (λ t. omega (arith, tests))
 
 pub prepared_made : (strict : Bool) (s : Summary) (trigger below : ℕ) {low first : ℕ} → low ≡ lowered s.first trigger → first ≡ pick strict s.first low
     → record { first = first; accepting = below } ≡ prepared_from strict s trigger below
@@ -36,35 +37,14 @@ pub changed_made : (s : Summary) (commit slot before now : ℕ) {low first many 
 unfolding changed
 changed_made s commit slot before now a b c d = rw (d, c, b, a)
 
-module _ (n : ℕ) (before now : Bool) where
-  pub recount_none : before ≡ true → now ≡ false → n ≡ 0 → 0 ≡ recounted n before now
-  recount_none a b c = rw (a, b) (omega arith)
-
-  pub recount_less : before ≡ true → now ≡ false → n - 1 ≡ recounted n before now
-  recount_less a b = rw (a, b)
-
-  pub recount_same : before ≡ false → now ≡ false → n ≡ recounted n before now
-  recount_same a b = rw (a, b)
-
-  pub recount_full : before ≡ false → now ≡ true → 64 ≤ n → n ≡ recounted n before now
-  recount_full a b h = rw (a, b, le-ltb n 64 h)
-
-  pub recount_more : before ≡ false → now ≡ true → n < 64 → n + 1 ≡ recounted n before now
-  recount_more a b h = rw (a, b, lt-ltb n 64 h)
-
 -- ── a turn of the one pass ──
-module _ (first i status : ℕ) where
-  pub next_found : (first ≡ i → ⊥) → first ≡ pick (eqb first i && leb 3 status) (i + 1) first
-  next_found h = rw (ne_eqb first i h)
-
-  pub next_here : status < 3 → first ≡ pick (eqb first i && leb 3 status) (i + 1) first
-  next_here h = rw (lt-leb 3 status h, and-false (eqb first i))
-
-  pub next_none : first ≡ i → 3 ≤ status → i + 1 ≡ pick (eqb first i && leb 3 status) (i + 1) first
-  next_none h q = rw (eq-eqb first i h, le-leb 3 status q)
-
 pub open_turn : (p : ℕ → Bool) (first next i : ℕ) → first ≡ scan p 0 i → next ≡ pick (eqb first i && p i) (i + 1) first → next ≡ scan p 0 (i + 1)
 open_turn p first next i e f = f ∙ rw e (sym (scan_more p i))
+
+-- a test as a number
+pub byte_one : (t : Bool) → bool_byte t ≡ one t
+byte_one true = refl
+byte_one false = refl
 
 pub count_turn : (p : ℕ → Bool) (from n k m i : ℕ) → n ≡ how_many p from i → k ≡ one (p i) → m ≡ pick (leb from i) k 0 → n + m ≡ how_many p from (i + 1)
 count_turn p from n k m i e g f =
@@ -123,12 +103,19 @@ module _ (w : Window) (status from to : ℕ) where
   unfolding counted_in
   counted_in_lem h = rw (le-leb to 64 h)
 
-  pub counted_end : (i n : ℕ) → to ≤ 64 → from ≤ i → to ≤ i → i - from ≤ to - from → n ≡ how_many (has_status w status) from i → n ≡ counted_in w status from to
-  counted_end i n s a b c e =
-      e ∙ range_end (how_many (has_status w status) from) from i to a b c
-      (λ v. how_many_none (has_status w status) from from (omega arith) ∙ sym (how_many_none (has_status w status) from to v))
-      ∙ sym (counted_in_lem s)
+  pub counted_nowhere : Nowhere from to → 0 ≡ counted_in w status from to
+  unfolding counted_in
+  counted_nowhere = ⊎_elim (λ h. rw (lt-leb to 64 h)) (λ h. rw (le-leb to 64 h.0, how_many_none (has_status w status) from to h.1))
 
-  pub counted_more : (i n m : ℕ) → from ≤ i → n ≡ how_many (has_status w status) from i → m ≡ one (eqb (slot_at w i).status status)
-      → n + m ≡ how_many (has_status w status) from (i + 1)
-  counted_more i n m h e f = omega (arith, how_many_more (has_status w status) from i h)
+  pub counted_span : length w.slots ≡ 64 → to ≤ 64 → length (filter (λ (s : Slot). eqb s.status status) (span from to w.slots)) ≡ counted_in w status from to
+  counted_span l h = sym (how_many_span (λ (s : Slot). eqb s.status status) no_slot w.slots from to (omega arith)) ∙ sym (counted_in_lem h)
+
+-- what the code hands back of a survey is told apart by what it is taken to
+pub survey_unique : (a b : Option code.Survey) → survey_of a ≡ survey_of b → a ≡ b
+survey_unique None None e = refl
+survey_unique None (Some t) e = absurd (clash (ap (λ (x : Survey). x.fit) e) refl)
+survey_unique (Some s) None e = absurd (clash refl (ap (λ (x : Survey). x.fit) e))
+survey_unique (Some s) (Some t) e =
+    let f : s.first ≡ t.first = ap (λ (x : Survey). x.first) e in
+    let g : s.accepting ≡ t.accepting = ap (λ (x : Survey). x.accepting) e in
+    ap (λ (x : code.Survey). Some x) (rw (f, g))

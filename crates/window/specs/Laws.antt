@@ -1,8 +1,13 @@
 -- The laws of the window's loops: one turn that writes no action, one or two; where a sweep begins and a turn of it; growth; searches.
-use Rattle.std.specs.Prelude.{◌≡◌, refl, Bool, true, false, not, List, [], ◌∷◌, ℕ, zero, suc, ◌+◌, ◌-◌, ◌*◌, ◌≤◌, ◌<◌, leb, ltb, length, get_or, set}
+use Rattle.std.specs.Prelude.{◌≡◌, refl, Bool, true, false, not, List, [], ◌∷◌, ℕ, zero, suc, ◌+◌, ◌-◌, ◌*◌, ◌≤◌, ◌<◌, leb, ltb, length, get_or, set, replicate}
 use Rattle.std.proofs.Math.Path.{sym}
 use Rattle.std.proofs.Common.{ap, ◌∙◌, ⊎_elim, le_refl, eq-or-lt_of_le, add-zero, add_assoc, arith, length-append}
 use Rattle.std.proofs.Math.Bool.{and-false, not-not}
+use Rattle.std.proofs.Math.Seq.{paste}
+use Rattle.std.proofs.lemmas.List.{length-replicate}
+use Rattle.std.proofs.lemmas.List.Edits.{paste_none, fill_from_more}
+use Rattle.std.proofs.lemmas.Slice.{put_mid-paste}
+use borrow.Rule.Slice.PartMut.{put_mid}
 use borrow.Author.Tests.{le-leb, lt-leb, eq-eqb, ne_eqb, leb-true}
 use Rattle.base.specs.Pick.{pick, pick_cases, and_right, and_make, tests}
 use Rattle.base.specs.Over.{over, over_self, over_more, over_after}
@@ -145,28 +150,31 @@ module _ (from k start ballot : ℕ) (room : List ℕ) where
       range_end (gather g from) from i to h q u (λ v. gather_self g from ∙ sym (gather_none g from to v)) in
       record { next = omega (arith, p.next); written = rw same at p.written }
 
--- a loop that writes one value to each place from the window's end up to n
+-- one value at each place from the window's end up to n: as a loop writes it, and as the library does
 module _ (z : Slot) (w : Window) where
-  abbrev pub filling : ℕ → Window
-  filling i = record { len = w.len; slots = over (λ j s. z) no_slot w.len i w.slots }
+  over_paste : (i : ℕ) → w.len + i ≤ length w.slots → over (λ j s. z) no_slot w.len (w.len + i) w.slots ≡ paste w.slots w.len (replicate i z) i
+  over_paste zero h =
+      ap (λ (m : ℕ). over (λ j s. z) no_slot w.len m w.slots) (add-zero w.len) ∙ over_self (λ j s. z) no_slot w.len w.slots ∙ paste_none w.slots w.len (replicate 0 z)
+  over_paste (suc i) h =
+      let e : w.len + suc i ≡ w.len + i + 1 = omega arith in
+      let f : i + 1 ≡ suc i = omega arith in
+      let g = fill_from_more w.slots w.len i z (omega arith) in
+      ap (λ (m : ℕ). over (λ j s. z) no_slot w.len m w.slots) e
+      ∙ over_more (λ j s. z) no_slot w.len (w.len + i) w.slots (omega arith)
+      ∙ ap (λ (x : List Slot). set x (w.len + i) z) (over_paste i (omega arith))
+      ∙ rw f at g
 
-  pub fill_start : w ≡ filling w.len
-  fill_start = rw (over_self (λ j s. z) no_slot w.len w.slots)
-
-  pub fill_turn : (s : Window) (y : Slot) (i : ℕ) → w.len ≤ i → s ≡ filling i → y ≡ z → record { len = s.len; slots = set s.slots i y } ≡ filling (i + 1)
-  fill_turn s y i h e f = rw over_more (cc)
-
-  pub fill_done : (s : Window) (n i : ℕ) → s ≡ filling i → i ≡ n → ◌≡◌ {A = Window} (record { len = n; slots = s.slots }) (record { len = n; slots = (filling n).slots })
-  fill_done s n i e h = cc
+  pub filled_part : (n : ℕ) (part : List Slot) → w.len < n → n ≤ length w.slots → part ≡ replicate (n - w.len) z
+      → record { len = n; slots = put_mid w.len (n - w.len) w.slots part } ≡ filled z w n
+  unfolding filled
+  filled_part n part h l e =
+      let k : w.len + (n - w.len) ≡ n = omega arith in
+      rw (lt-leb n w.len h, put_mid-paste w.len (n - w.len) w.slots part (replicate (n - w.len) z) (n - w.len) e refl (sym (length-replicate (n - w.len) z))) (ap (λ (x : List Slot). record { len = n; slots = x }) (sym (over_paste (n - w.len) (omega arith)) ∙ ap (λ (m : ℕ). over (λ j s. z) no_slot w.len m w.slots) k))
 
 module _ (z : Slot) (w : Window) (n : ℕ) where
   pub filled_kept : n ≤ w.len → w ≡ filled z w n
   unfolding filled
   filled_kept h = rw (le-leb n w.len h)
-
-  pub filled_more : (y : Slot) → y ≡ z → w.len < n → record { len = n; slots = (filling y w n).slots } ≡ filled z w n
-  unfolding filled
-  filled_more y e h = rw (e, lt-leb n w.len h)
 
 -- ── searches ──
 -- a loop that finds the last: a turn of it

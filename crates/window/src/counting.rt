@@ -2,7 +2,7 @@
 ghost use Rattle.std.specs.Prelude.{◌≡◌};
 ghost use Rattle.window.specs.Counting.{lacking_in, counts_in};
 
-use super::Window;
+use super::{SLOTS, Window};
 use decide::{Reply, Scalars};
 
 impl Window {
@@ -10,28 +10,20 @@ impl Window {
     fn is_lacking(self, from: usize, to: usize, peer: u64) -> bool
         ensures { result ≡ lacking_in self peer from to }
     {
-        if 64 < to {
+        if SLOTS < to || to <= from {
             return false;
         }
-        let mut i = from;
-        while i < to {
-            let s = self.slots[i];
-            if s.lacks_note(peer) {
-                return true;
-            }
-            i += 1;
-        }
-        false
+        self.slots[from..to].iter().any(|s| s.lacks_note(peer))
     }
 
     // Whether the member of a PrepareReply counts, at the trigger slot at place j; the reply has been noted.
     pub fn counts(self, sc: Scalars, j: usize, peer: u64, m: Reply) -> bool
         ensures { result ≡ counts_in sc self j peer m }
     {
-        if 64 < self.len {
+        if SLOTS < self.len {
             return false;
         }
-        if 64 <= j {
+        if SLOTS <= j {
             return false;
         }
         if !sc.strict() {

@@ -1,37 +1,22 @@
 // 02, Wish 1: the summary, asked and kept. It follows from small values; slots are looked at in the fit test's one pass, and where a range must be counted.
 ghost use Rattle.std.specs.Prelude.{◌≡◌, ◌<◌, ◌+◌, ◌&&◌, leb, eqb};
-ghost use Rattle.base.specs.Pick.{pick, one};
-ghost use Rattle.window.specs.Kept.{recounted, changed, is_passed, prepared_from, counted_in, surveyed, no_survey};
+ghost use Rattle.base.specs.Pick.{pick};
+ghost use Rattle.window.specs.Kept.{recounted, changed, is_passed, prepared_from, counted_in, survey_of, surveyed};
 
-use super::{Summary, Survey, Window, chosen};
-
-// One of two numbers, by a test.
-fn either(test: bool, a: u64, b: u64) -> u64
-    ensures { result ≡ pick test a b }
-{
-    if test { a } else { b }
-}
+use super::{SLOTS, Summary, Survey, Window};
+use slots::{ACCEPTING, COMMITTED};
 
 // A count of slots, where one of them counted before or counts now.
 fn recount(n: u64, before: bool, now: bool) -> u64
     ensures { result ≡ recounted n before now }
 {
+    if before == now {
+        return n;
+    }
     if before {
-        if now {
-            return n;
-        }
-        if n == 0 {
-            return 0;
-        }
-        return n - 1;
+        return n.saturating_sub(1);
     }
-    if !now {
-        return n;
-    }
-    if 64 <= n {
-        return n;
-    }
-    n + 1
+    if n < SLOTS as u64 { n + 1 } else { n }
 }
 
 impl Summary {
@@ -53,44 +38,41 @@ impl Summary {
     pub fn changed(self, commit_bar: u64, slot: u64, before: u64, now: u64) -> Summary
         ensures { result ≡ changed self commit_bar slot before now }
     {
-        let low = either(slot < self.first, slot, self.first);
-        let first = either(now < 3, low, self.first);
-        let many = recount(self.accepting, before == 2, now == 2);
-        let accepting = either(slot < commit_bar, self.accepting, many);
-        Summary {
-            first: first,
-            accepting: accepting,
-        }
+        let first = if now < COMMITTED {
+            self.first.min(slot)
+        } else {
+            self.first
+        };
+        let many = recount(self.accepting, before == ACCEPTING, now == ACCEPTING);
+        let accepting = if slot < commit_bar {
+            self.accepting
+        } else {
+            many
+        };
+        Summary { first, accepting }
     }
 
     // Whether the slot that was the first open one is none any more.
     pub fn is_passed(self, slot: u64, now: u64) -> bool
         ensures { result ≡ is_passed self slot now }
     {
-        if slot != self.first {
-            return false;
-        }
-        3 <= now
+        slot == self.first && COMMITTED <= now
     }
 
     // Prepare: no slot from the trigger on is Accepting then; `below` are, between commit_bar and the trigger.
     pub fn prepared_from(self, strict: bool, trigger: u64, below: u64) -> Summary
         ensures { result ≡ prepared_from strict self trigger below }
     {
-        let low = either(trigger < self.first, trigger, self.first);
-        let first = either(strict, self.first, low);
+        let first = if strict {
+            self.first
+        } else {
+            self.first.min(trigger)
+        };
         Summary {
-            first: first,
+            first,
             accepting: below,
         }
     }
-}
-
-// 1 where a test holds.
-fn one_if(test: bool) -> u64
-    ensures { result ≡ one test }
-{
-    if test { 1 } else { 0 }
 }
 
 // The place of the first open slot up to a place, where it is known up to the place before.
@@ -98,23 +80,10 @@ fn next_open(first: usize, i: usize, status: u64) -> usize
     requires { i < 64 }
     ensures { result ≡ pick (eqb first i && leb 3 status) (i + 1) first }
 {
-    if first != i {
-        return first;
-    }
-    if status < 3 {
-        return first;
-    }
-    i + 1
-}
-
-// Nothing found: the slots are not all fit.
-fn no_survey() -> Survey
-    ensures { result ≡ no_survey }
-{
-    Survey {
-        fit: false,
-        first: 0,
-        accepting: 0,
+    if first == i && COMMITTED <= status {
+        i + 1
+    } else {
+        first
     }
 }
 
@@ -123,42 +92,33 @@ impl Window {
     pub fn count_at(self, status: u64, from: usize, to: usize) -> u64
         ensures { result ≡ counted_in self status from to }
     {
-        if 64 < to {
+        if SLOTS < to || to <= from {
             return 0;
         }
-        let mut n = 0;
-        let mut i = from;
-        while i < to {
-            let s = self.slots[i];
-            let more = one_if(s.status == status);
-            n += more;
-            i += 1;
-        }
-        n
+        self.slots[from..to]
+            .iter()
+            .filter(|s| s.status == status)
+            .count() as u64
     }
 
-    // One pass: whether every slot in use is fit, the place of the first open one, and how many from a place on are Accepting.
-    pub fn survey(self, group: u64, from: usize) -> Survey
-        ensures { result ≡ surveyed group from self }
+    // Kept: one loop for three things, since the slots are walked once (docs/DECISIONS.md, "The test for 14").
+    // One pass: the place of the first open slot, and how many from a place on are Accepting; none where a slot in use is unfit, or more than 64 are in use.
+    pub fn survey(self, group: u64, from: usize) -> Option<Survey>
+        ensures { survey_of result ≡ surveyed group from self }
     {
-        if 64 < self.len {
-            return no_survey();
+        if SLOTS < self.len {
+            return None;
         }
         let mut first = 0;
         let mut accepting = 0;
         for i in 0..self.len {
             let s = self.slots[i];
             if !s.is_fit(group) {
-                return no_survey();
+                return None;
             }
             first = next_open(first, i, s.status);
-            let more = either(from <= i, one_if(s.status == 2), 0);
-            accepting += more;
+            accepting += u64::from(from <= i && s.status == ACCEPTING);
         }
-        Survey {
-            fit: true,
-            first: first,
-            accepting: accepting,
-        }
+        Some(Survey { first, accepting })
     }
 }

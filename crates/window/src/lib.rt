@@ -6,16 +6,19 @@ mod keeping;
 mod searches;
 mod sweeps;
 
-use searches::chosen;
 pub use searches::{larger_of, no_slots};
 use slots::Slot;
 pub use sweeps::put_promises;
 
+// How many slots a window has places for.
+pub const SLOTS: usize = 64;
+
 // The log from the start slot on: the first `len` slots are present.
+// Kept: an array and a length, since memory is fixed and there is no heap; a host hands over any such record, an unfit one too.
 #[derive(Clone, Copy)]
 pub struct Window {
     pub len: usize,
-    pub slots: [Slot; 64],
+    pub slots: [Slot; SLOTS],
 }
 
 // 02, Wish 1: the first slot not committed, by its number (the log end if there is none), and how many slots from commit_bar on are Accepting.
@@ -25,10 +28,9 @@ pub struct Summary {
     pub accepting: u64,
 }
 
-// What one pass over the slots in use finds: whether all are fit, the place of the first below Committed, and how many from a place on are Accepting.
+// What one pass over the slots in use finds, where all are fit: the place of the first below Committed, and how many from a place on are Accepting.
 #[derive(Clone, Copy)]
 pub struct Survey {
-    pub fit: bool,
     pub first: usize,
     pub accepting: u64,
 }

@@ -1,55 +1,54 @@
 // Searches and growth of the window. It has 64 places: each function first tests that no more are asked for, and else does nothing.
+// Kept: these tests, here and in the other files: what a range past the window or a length above 64 gives is promised (specs/Bounded.antt, Kept.antt).
+// Kept: `from` and `to`, here and in the other files: a Range is not Copy and would first be taken apart, to index by it and then to read its ends.
 ghost use Rattle.std.specs.Prelude.{◌≡◌};
 ghost use Rattle.base.specs.Pick.{pick, larger};
 ghost use Rattle.slots.specs.Slots.{null_slot, appended_slot};
 ghost use Rattle.window.specs.Window.{no_slots};
 ghost use Rattle.window.specs.Bounded.{filled_in, last_used_in, last_open_in, any_above_in, stop_in, executed_in};
 
-use super::Window;
-use slots::{LeaderBook, appended_slot, null_slot};
+use super::{SLOTS, Window};
+use slots::{COMMITTED, EXECUTED, LeaderBook, NULL, Slot, appended_slot, null_slot};
 
 // No slots.
 pub fn no_slots() -> Window
     ensures { result ≡ no_slots }
 {
-    let null = null_slot();
     Window {
         len: 0,
-        slots: [null; 64],
+        slots: [null_slot(); SLOTS],
     }
 }
 
-// One of two places, by a test.
-pub(crate) fn chosen(test: bool, a: usize, b: usize) -> usize
-    ensures { result ≡ pick test a b }
-{
-    if test { a } else { b }
-}
-
 // The larger of two places.
+// Kept: a public name for `max`, which docs/PROMISES.md lists.
 pub fn larger_of(a: usize, b: usize) -> usize
     ensures { result ≡ larger a b }
 {
-    chosen(a < b, b, a)
+    a.max(b)
 }
 
 impl Window {
+    // A slot at each place from the end up to n. The window is lent: by value it would be copied once more, 18 KB.
+    fn fill_to(&mut self, n: usize, slot: Slot)
+        ensures { self.new ≡ filled_in slot self.old n }
+    {
+        if SLOTS < n {
+            return;
+        }
+        if n <= self.len {
+            return;
+        }
+        let at = self.len;
+        self.slots[at..n].fill(slot);
+        self.len = n;
+    }
+
     // Null slots up to n places.
     pub fn grow_to(mut self, n: usize) -> Window
         ensures { result ≡ filled_in null_slot self n }
     {
-        if 64 < n {
-            return self;
-        }
-        let at = self.len;
-        if n <= at {
-            return self;
-        }
-        let null = null_slot();
-        for i in at..n {
-            self.slots[i] = null;
-        }
-        self.len = n;
+        self.fill_to(n, null_slot());
         self
     }
 
@@ -57,32 +56,23 @@ impl Window {
     pub fn append(mut self, n: usize, ballot: u64, book: LeaderBook) -> Window
         ensures { result ≡ filled_in (appended_slot ballot book) self n }
     {
-        if 64 < n {
-            return self;
-        }
-        let at = self.len;
-        if n <= at {
-            return self;
-        }
-        let new = appended_slot(ballot, book);
-        for i in at..n {
-            self.slots[i] = new;
-        }
-        self.len = n;
+        self.fill_to(n, appended_slot(ballot, book));
         self
     }
 
     // The last place in use whose slot is not null, 0 if there is none.
+    // Kept: a loop, here and in last_open: tried with `rposition`, whose promise is one of calls, not of a list, and the check found no proof.
     pub fn last_used(self) -> usize
         ensures { result ≡ last_used_in self }
     {
-        if 64 < self.len {
+        if SLOTS < self.len {
             return 0;
         }
         let mut found = 0;
         for i in 0..self.len {
-            let s = self.slots[i];
-            found = chosen(0 < s.status, i, found);
+            if NULL < self.slots[i].status {
+                found = i;
+            }
         }
         found
     }
@@ -91,13 +81,14 @@ impl Window {
     pub fn last_open(self) -> usize
         ensures { result ≡ last_open_in self }
     {
-        if 64 < self.len {
+        if SLOTS < self.len {
             return self.len;
         }
         let mut found = self.len;
         for i in 0..self.len {
-            let s = self.slots[i];
-            found = chosen(s.status < 3, i, found);
+            if self.slots[i].status < COMMITTED {
+                found = i;
+            }
         }
         found
     }
@@ -106,56 +97,36 @@ impl Window {
     pub fn any_above(self, from: usize, to: usize, ballot: u64) -> bool
         ensures { result ≡ any_above_in self ballot from to }
     {
-        if 64 < to {
+        if SLOTS < to || to <= from {
             return false;
         }
-        let mut i = from;
-        while i < to {
-            let s = self.slots[i];
-            if ballot < s.ballot {
-                return true;
-            }
-            i += 1;
-        }
-        false
+        self.slots[from..to].iter().any(|s| ballot < s.ballot)
     }
 
     // The first place from one up to another whose slot is below a ballot or a status, or the end.
+    // Kept: a status by its number, here and where one is counted or changes: any number may be given (`stop_in`, `counted_in`, `changed`).
     pub fn stop(self, from: usize, to: usize, ballot: u64, status: u64) -> usize
         ensures { result ≡ stop_in self ballot status from to }
     {
-        if 64 < to {
+        if SLOTS < to || to <= from {
             return from;
         }
-        let mut i = from;
-        while i < to {
-            let s = self.slots[i];
-            if s.ballot < ballot {
-                return i;
-            }
-            if s.status < status {
-                return i;
-            }
-            i += 1;
-        }
-        i
+        let found = self.slots[from..to]
+            .iter()
+            .position(|s| s.ballot < ballot || s.status < status);
+        from + found.unwrap_or(to - from)
     }
 
     // The first place from one up to another whose slot is not Executed, or the end.
     pub fn executed_to(self, from: usize, to: usize) -> usize
         ensures { result ≡ executed_in self from to }
     {
-        if 64 < to {
+        if SLOTS < to || to <= from {
             return from;
         }
-        let mut i = from;
-        while i < to {
-            let s = self.slots[i];
-            if s.status != 4 {
-                return i;
-            }
-            i += 1;
-        }
-        i
+        let found = self.slots[from..to]
+            .iter()
+            .position(|s| s.status != EXECUTED);
+        from + found.unwrap_or(to - from)
     }
 }

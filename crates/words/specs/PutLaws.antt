@@ -2,6 +2,7 @@
 use Rattle.std.specs.Prelude.{◌≡◌, ℕ, suc, ◌+◌, ◌-◌, ◌<◌, ◌≤◌, List, [], ◌∷◌, ◌++◌, length, take, drop, nat_le, slice_index, slice_set, refl}
 use Rattle.std.proofs.Math.Path.{sym, ap}
 use Rattle.std.proofs.Common.{◌∙◌, append_assoc, append-nil, add-zero, length-append, take-append-drop, take_at, get_or-take, get_or-drop, le-leb}
+use borrow.Rule.Slice.PartMut.{put_mid}
 use native.Mathlib.Omega.{arith}
 use Rattle.std.proofs.Math.ListN.{length-drop}
 use Rattle.std.proofs.Math.Seq.{length-take-le, drop_at, drop-append-add, drop-append-le, take-append_seam, append_snoc, drop-drop}
@@ -22,6 +23,12 @@ module _ (l : List ℕ) (at : ℕ) (vs : List ℕ) where
   pub put_past : length l < at + length vs → put l at vs ≡ l
   unfolding put
   put_past h = rw (lt-leb (at + length vs) (length l) h)
+
+  -- a copy into a part of that length
+  pub put_over : (k : ℕ) (ys : List ℕ) → at + length vs ≤ length l → k ≡ length vs → ys ≡ vs → put_mid at k l ys ≡ put l at vs
+  unfolding put_at
+  put_over k ys h e f =
+      rw (e, f, put_fits h, append_assoc (take at l) vs (drop (at + length vs) l), drop-drop (length vs) at l)
 
   pub next_fits : at + length vs ≤ length l → next l at vs ≡ at + length vs
   unfolding next

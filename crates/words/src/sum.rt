@@ -7,19 +7,16 @@ ghost use Rattle.words.specs.Sums.{sum_of};
 use crate::little::word;
 
 // The sum of n words from `at` on but for the one numbered `out`, wrapping at 2^32; 0 where there are not so many.
+#[tactic(auto, using(crate::specs::SumLaws::sum_past))]
 pub fn sum_at(bytes: &[u8], at: usize, n: usize, out: usize) -> u32
     ensures { result ≡ sum_of bytes.now at n out }
 {
-    if bytes.len() < at {
+    if bytes.len() < at || (bytes.len() - at) / 4 < n {
         return 0;
     }
-    if (bytes.len() - at) / 4 < n {
-        return 0;
-    }
-    let mut sum: u32 = 0;
+    let mut sum = 0u32;
     for i in 0..n {
-        let w = summand(bytes, at, i, out);
-        sum = std::num::wrapping_add_u32(sum, w);
+        sum = sum.wrapping_add(summand(bytes, at, i, out));
     }
     sum
 }
@@ -28,8 +25,5 @@ fn summand(bytes: &[u8], at: usize, i: usize, out: usize) -> u32
     requires { at + 4 * (i + 1) ≤ length bytes.now }
     ensures { result ≡ pick (i == out) 0 (number_at 4 bytes.now (at + 4 * i)) }
 {
-    if i == out {
-        return 0;
-    }
-    word(bytes, at + 4 * i)
+    if i == out { 0 } else { word(bytes, at + 4 * i) }
 }

@@ -4,14 +4,12 @@ ghost use Rattle.words.specs.Put.{put_at, Written};
 ghost use Rattle.words.specs.Decimal.{decimal, digits, Wide};
 
 // Puts a number's digits at a place and gives the next; where they do not fit, nothing changes and the place stays.
+#[tactic(auto, using(crate::specs::DecimalLaws::number_left, crate::specs::DecimalLaws::number_written))]
 pub fn put_number(text: &mut [u8], at: usize, n: u64) -> usize
     ensures { Written text.old at (decimal n) result text.new }
 {
     let width = width_of(n);
-    if text.len() < width {
-        return at;
-    }
-    if text.len() - width < at {
+    if text.len() < width || text.len() - width < at {
         return at;
     }
     spell(text, at, n, width);
@@ -30,6 +28,7 @@ pub fn put_byte(text: &mut [u8], at: usize, byte: u8) -> usize
 }
 
 // Two digits a turn, from the last on.
+// Kept: a `for` is no plainer here, since the places go down by two, and the digit that may be left over stands after them.
 fn spell(text: &mut [u8], at: usize, n: u64, width: usize)
     requires { at + width ≤ length text.old }
     ensures { text.new ≡ put_at text.old at (digits width n) }
@@ -41,8 +40,8 @@ fn spell(text: &mut [u8], at: usize, n: u64, width: usize)
         let end = at + left;
         text[end - 1] = digit(pair);
         text[end - 2] = digit(pair / 10);
-        rest = rest / 100;
-        left = left - 2;
+        rest /= 100;
+        left -= 2;
     }
     if left == 1 {
         text[at] = digit(rest);
@@ -52,52 +51,15 @@ fn spell(text: &mut [u8], at: usize, n: u64, width: usize)
 fn digit(n: u64) -> u8
     ensures { result ≡ 48 + n % 10 }
 {
-    48 + (n % 10) as u8
+    b'0' + (n % 10) as u8
 }
 
 // How many digits a number has.
 fn width_of(n: u64) -> usize
     ensures { Wide n result }
 {
-    if n < 10 {
-        1
-    } else if n < 100 {
-        2
-    } else if n < 1000 {
-        3
-    } else if n < 10000 {
-        4
-    } else if n < 100000 {
-        5
-    } else if n < 1000000 {
-        6
-    } else if n < 10000000 {
-        7
-    } else if n < 100000000 {
-        8
-    } else if n < 1000000000 {
-        9
-    } else if n < 10000000000 {
-        10
-    } else if n < 100000000000 {
-        11
-    } else if n < 1000000000000 {
-        12
-    } else if n < 10000000000000 {
-        13
-    } else if n < 100000000000000 {
-        14
-    } else if n < 1000000000000000 {
-        15
-    } else if n < 10000000000000000 {
-        16
-    } else if n < 100000000000000000 {
-        17
-    } else if n < 1000000000000000000 {
-        18
-    } else if n < 10000000000000000000 {
-        19
-    } else {
-        20
+    match n.checked_ilog10() {
+        Some(log) => log as usize + 1,
+        None => 1,
     }
 }

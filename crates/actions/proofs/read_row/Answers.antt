@@ -1,10 +1,12 @@
-use Rattle.actions.specs.ReadLaws.{kind_low, kind_high, row_read}
+use Rattle.std.proofs.Common.{ap, ◌∙◌}
+use Rattle.actions.specs.Actions.{keys_for}
+use Rattle.actions.specs.Reading.{seen}
+use Rattle.actions.specs.ReadLaws.{none_kept, some_kept}
 use Rattle.actions.proofs.read_row.Goals as goal
 
-pub returns-then-kind-ge1 : goal.returns-then-kind-ge1
-returns-then-kind-ge1 c =
-    row_read c.args.nums _ _ _ _ (kind_high c.args.nums c.if-kind-ge1.true) c.row_action-what.ensures c.row_keys.ensures c.keys_for-keys.ensures
+pub returns-in_err-what : goal.returns-in_err-what
+returns-in_err-what c = ap seen c.from_residual.ensures ∙ none_kept c.args.nums c.in_err-what.ensures
 
-pub returns-else-kind-ge1 : goal.returns-else-kind-ge1
-returns-else-kind-ge1 c =
-    row_read c.args.nums _ _ _ _ (kind_low c.args.nums c.if-kind-ge1.false) c.row_action-what.ensures c.row_keys.ensures c.keys_for-keys.ensures
+pub returns : goal.returns
+returns c =
+    some_kept c.args.nums _ _ c.in_ok-what.ensures (c.keys_for-keys.ensures ∙ ap (keys_for c.in_ok-what.what) c.row_keys.ensures)

@@ -4,4 +4,4 @@ use Rattle.reader.proofs.step_at.Goals as goal
 pub returns : goal.returns
 returns c =
     let a = c.args in
-    step_made a.bytes.now a.at _ _ _ c.next_record-found.ensures c.record_at-read.ensures c.after_at-after.ensures
+    step_made a.bytes.now a.at _ _ _ c.next_record.ensures c.record_at.ensures c.after_at.ensures

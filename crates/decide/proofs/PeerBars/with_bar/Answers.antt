@@ -3,7 +3,7 @@ use Rattle.std.proofs.Common.{rules}
 use Rattle.decide.proofs.PeerBars.with_bar.Goals as goal
 
 pub returns-then-m-gt8 : goal.returns-then-m-gt8
-returns-then-m-gt8 c = with_bar_past _ _ _ _ _ (search rules) c.if-m-gt8.true c.owns-own.ensures
+returns-then-m-gt8 c = with_bar_past _ _ _ _ _ (search rules) c.if-m-gt8.true c.owns.ensures
 
 pub returns : goal.returns
-returns c = with_bar_at _ _ _ _ _ c.owns-own.ensures
+returns c = with_bar_at _ _ _ _ _ c.owns.ensures

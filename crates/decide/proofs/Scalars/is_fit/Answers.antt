@@ -18,9 +18,9 @@ pub returns-then-self : goal.returns-then-self
 unfolding fit_scalars
 returns-then-self c = simp (le-ltb _ _ c.if-self.true, and-false)
 
-pub returns-then-self-gt4294967296 : goal.returns-then-self-gt4294967296
+pub returns-then-self-gt-LAST_START : goal.returns-then-self-gt-LAST_START
 unfolding fit_scalars
-returns-then-self-gt4294967296 c = simp (lt-leb _ _ c.if-self-gt4294967296.true, and-false)
+returns-then-self-gt-LAST_START c = simp (lt-leb _ _ c.if-self-gt-LAST_START.true, and-false)
 
 pub returns-then-len-gt64 : goal.returns-then-len-gt64
 unfolding fit_scalars

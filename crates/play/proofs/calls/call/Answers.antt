@@ -1,38 +1,71 @@
+use Rattle.std.proofs.Common.{arith}
 use Rattle.replica.specs.ActingLaws.{same_told}
-use Rattle.play.specs.Laws.{calls_prepare, calls_reply, calls_accept, calls_accept_reply, calls_notice, calls_timeout, calls_own}
+use Rattle.trace.specs.declared.kind.Kind.TheVariants.{Prepare, PrepareReply, Accept, AcceptReply, CommitNotice, Timeout, Offer, Logged, Executed, OpenRead, ReadReply}
+use Rattle.play.specs.Laws.{kind_is, names_call, names_own, calls_prepare, calls_reply, calls_accept, calls_accept_reply, calls_notice, calls_timeout, calls_offer, calls_logged, calls_executed, calls_open, calls_read}
 use Rattle.play.proofs.calls.call.Goals as goal
 
-pub returns-then-rec-eq1 : goal.returns-then-rec-eq1
-returns-then-rec-eq1 c =
+pub returns-in-Prepare : goal.returns-in-Prepare
+returns-in-Prepare c =
     let a = c.args in
-    same_told (calls_prepare a.r _ a.rec c.if-rec-eq1.true) c.prepare.ensures
+    let e = kind_is a.r 0 a.rec Prepare c.requires c.in-Prepare.is in
+    same_told (names_call a.r _ a.rec _ (omega (arith, e)) (calls_prepare a.r _ a.rec e)) c.prepare.ensures
 
-pub returns-then-rec-eq2 : goal.returns-then-rec-eq2
-returns-then-rec-eq2 c =
+pub returns-in-PrepareReply : goal.returns-in-PrepareReply
+returns-in-PrepareReply c =
     let a = c.args in
-    same_told (calls_reply a.r _ a.rec _ c.if-rec-eq2.true c.reply_of-m.ensures) c.prepare_reply.ensures
+    let e = kind_is a.r 0 a.rec PrepareReply c.requires c.in-PrepareReply.is in
+    same_told (names_call a.r _ a.rec _ (omega (arith, e)) (calls_reply a.r _ a.rec _ e c.reply_of.ensures)) c.prepare_reply.ensures
 
-pub returns-then-rec-eq3 : goal.returns-then-rec-eq3
-returns-then-rec-eq3 c =
+pub returns-in-Accept : goal.returns-in-Accept
+returns-in-Accept c =
     let a = c.args in
-    same_told (calls_accept a.r _ a.rec _ c.if-rec-eq3.true c.batch_of-batch.ensures) c.accept.ensures
+    let e = kind_is a.r 0 a.rec Accept c.requires c.in-Accept.is in
+    same_told (names_call a.r _ a.rec _ (omega (arith, e)) (calls_accept a.r _ a.rec _ e c.batch_of.ensures)) c.accept.ensures
 
-pub returns-then-rec-eq4 : goal.returns-then-rec-eq4
-returns-then-rec-eq4 c =
+pub returns-in-AcceptReply : goal.returns-in-AcceptReply
+returns-in-AcceptReply c =
     let a = c.args in
-    same_told (calls_accept_reply a.r _ a.rec c.if-rec-eq4.true) c.accept_reply.ensures
+    let e = kind_is a.r 0 a.rec AcceptReply c.requires c.in-AcceptReply.is in
+    same_told (names_call a.r _ a.rec _ (omega (arith, e)) (calls_accept_reply a.r _ a.rec e)) c.accept_reply.ensures
 
-pub returns-then-rec-eq5 : goal.returns-then-rec-eq5
-returns-then-rec-eq5 c =
+pub returns-in-CommitNotice : goal.returns-in-CommitNotice
+returns-in-CommitNotice c =
     let a = c.args in
-    same_told (calls_notice a.r _ a.rec c.if-rec-eq5.true) c.commit_notice.ensures
+    let e = kind_is a.r 0 a.rec CommitNotice c.requires c.in-CommitNotice.is in
+    same_told (names_call a.r _ a.rec _ (omega (arith, e)) (calls_notice a.r _ a.rec e)) c.commit_notice.ensures
 
-pub returns-then-rec-eq6 : goal.returns-then-rec-eq6
-returns-then-rec-eq6 c =
+pub returns-in-Timeout : goal.returns-in-Timeout
+returns-in-Timeout c =
     let a = c.args in
-    same_told (calls_timeout a.r _ a.rec c.if-rec-eq6.true) c.timeout.ensures
+    let e = kind_is a.r 0 a.rec Timeout c.requires c.in-Timeout.is in
+    same_told (names_call a.r _ a.rec _ (omega (arith, e)) (calls_timeout a.r _ a.rec e)) c.timeout.ensures
 
-pub returns : goal.returns
-returns c =
+pub returns-in-Offer : goal.returns-in-Offer
+returns-in-Offer c =
     let a = c.args in
-    same_told (calls_own a.r _ a.rec c.if-rec-eq1.false c.if-rec-eq2.false c.if-rec-eq3.false c.if-rec-eq4.false c.if-rec-eq5.false c.if-rec-eq6.false) c.call_own.ensures
+    let e = kind_is a.r 0 a.rec Offer c.requires c.in-Offer.is in
+    same_told (names_own a.r _ a.rec _ (omega (arith, e)) (calls_offer a.r _ a.rec _ e c.batch_of-in-Offer.ensures)) c.offer.ensures
+
+pub returns-in-Logged : goal.returns-in-Logged
+returns-in-Logged c =
+    let a = c.args in
+    let e = kind_is a.r 0 a.rec Logged c.requires c.in-Logged.is in
+    same_told (names_own a.r _ a.rec _ (omega (arith, e)) (calls_logged a.r _ a.rec _ e c.done_of.ensures)) c.logged.ensures
+
+pub returns-in-Executed : goal.returns-in-Executed
+returns-in-Executed c =
+    let a = c.args in
+    let e = kind_is a.r 0 a.rec Executed c.requires c.in-Executed.is in
+    same_told (names_own a.r _ a.rec _ (omega (arith, e)) (calls_executed a.r _ a.rec e)) c.executed.ensures
+
+pub returns-in-OpenRead : goal.returns-in-OpenRead
+returns-in-OpenRead c =
+    let a = c.args in
+    let e = kind_is a.r 0 a.rec OpenRead c.requires c.in-OpenRead.is in
+    same_told (names_own a.r _ a.rec _ (omega (arith, e)) (calls_open a.r _ a.rec _ e c.keys_of.ensures)) c.open_read.ensures
+
+pub returns-in-ReadReply : goal.returns-in-ReadReply
+returns-in-ReadReply c =
+    let a = c.args in
+    let e = kind_is a.r 0 a.rec ReadReply c.requires c.in-ReadReply.is in
+    same_told (names_own a.r _ a.rec _ (omega (arith, e)) (calls_read a.r _ a.rec _ (λ z. omega arith) (λ z. omega arith) (λ z. omega arith) (λ z. omega arith) c.tally_of.ensures)) c.read_reply.ensures

@@ -1,13 +1,13 @@
 use mathlib.Core.Path.{refl}
 use native.Mathlib.Omega.{arith}
-use Rattle.replica.specs.ActingLaws.{keep, told}
+use Rattle.replica.specs.ActingLaws.{ignored_told, told}
 use Rattle.replica.specs.CompletionLaws.{committed_kept, committed_passes, pass_fits}
 use Rattle.replica.proofs.Replica.committed_done.Goals as goal
 
 pub returns-then-slot-sc : goal.returns-then-slot-sc
 returns-then-slot-sc c =
     let a = c.args in
-    keep 0 a.self c.kept.ensures (committed_kept a.self a.slot c.if-slot-sc.true) c.requires.sum
+    ignored_told a.self c.ignored.ensures (committed_kept a.self a.slot c.if-slot-sc.true) c.requires.sum
 
 pub pass_on-requires : goal.pass_on-requires
 pass_on-requires c =

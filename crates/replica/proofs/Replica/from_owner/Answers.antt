@@ -1,22 +1,21 @@
-use mathlib.Core.Path.{sym, ◌∙◌}
+use mathlib.Core.Path.{sym, ap, ◌∙◌}
 use Rattle.base.specs.Pick.{refuted, granted}
-use Rattle.replica.specs.AdmitLaws.{owner_first, owner_none, owner_some}
-use Rattle.std.proofs.Common.{ap}
 use Rattle.std.specs.Prelude.{not}
+use Rattle.replica.specs.SeenLaws.{refused_some, carried}
+use Rattle.replica.specs.AdmitLaws.{owner_shut, owner_none, owner_some}
 use Rattle.replica.proofs.Replica.from_owner.Goals as goal
 
-pub returns-then-first-ne0 : goal.returns-then-first-ne0
-returns-then-first-ne0 c =
+pub returns-in_err-from_peer : goal.returns-in_err-from_peer
+returns-in_err-from_peer c =
     let a = c.args in
-    let e = c.from_peer-first.ensures in
-    e ∙ owner_first a.self a.room a.peer a.ballot (λ z. c.if-first-ne0.true (e ∙ z))
+    carried _ _ c.from_residual.ensures.1 ∙ owner_shut a.self a.room (refused_some _) a.peer a.ballot c.in_err-from_peer.ensures
 
 pub returns-then-not-is_owner : goal.returns-then-not-is_owner
 returns-then-not-is_owner c =
     let a = c.args in
-    owner_none a.self a.room a.peer a.ballot (sym c.from_peer-first.ensures ∙ c.if-first-ne0.false) (refuted c.is_owner.ensures (ap not c.if-not-is_owner.true))
+    owner_none a.self a.room a.peer a.ballot (sym c.in_ok-from_peer.ensures) (refuted c.is_owner.ensures (ap not c.if-not-is_owner.true))
 
 pub returns : goal.returns
 returns c =
     let a = c.args in
-    owner_some a.self a.room a.peer a.ballot (sym c.from_peer-first.ensures ∙ c.if-first-ne0.false) (granted c.is_owner.ensures (ap not c.if-not-is_owner.false))
+    owner_some a.self a.room a.peer a.ballot (sym c.in_ok-from_peer.ensures) (granted c.is_owner.ensures (ap not c.if-not-is_owner.false))

@@ -14,4 +14,4 @@ overflow_add-bar c =
 pub returns : goal.returns
 returns c =
     let a = c.args in
-    moved_on a.self a.slot _ _ _ c.requires c.if-slot-sc.false c.stop-stop.ensures refl c.with_bars-after.ensures
+    moved_on a.self a.slot _ _ _ c.requires c.if-slot-sc.false c.stop-stop.ensures refl c.with_bars-self.ensures

@@ -1,20 +1,26 @@
-use borrow.Author.Tests.{ne_eqb}
 use lib.ListN.{length}
-use Rattle.replica.specs.AdmitLaws.{ready_by, ready_facts}
-use Rattle.replica.specs.ActingLaws.{refuse, keep}
-use mathlib.Core.Path.{refl}
+use mathlib.Core.Path.{sym, ap, ◌∙◌}
+use Rattle.replica.specs.Record.{kept}
+use Rattle.replica.specs.SeenLaws.{refused_some}
+use Rattle.replica.specs.AdmitLaws.{ready_open, ready_holds}
+use Rattle.replica.specs.ActingLaws.{refused_told, ignored_told}
 use Rattle.replica.specs.ReadCallLaws.{open_unready, open_ready}
 use Rattle.replica.proofs.Replica.open_read.Goals as goal
 
-pub returns-then-first-ne0 : goal.returns-then-first-ne0
-returns-then-first-ne0 c =
+pub returns-in-Err : goal.returns-in-Err
+returns-in-Err c =
     let a = c.args in
-    refuse _ a.self c.kept.ensures (open_unready a.self _ a.id a.count a.keys _ c.test_ready-first.ensures c.if-first-ne0.true)
-    (ne_eqb _ 0 c.if-first-ne0.true)
+    refused_told _ a.self c.refused.ensures (open_unready a.self _ a.id a.count a.keys _ c.in-Err.ensures (refused_some _))
 
-pub returns : goal.returns
-returns c =
+pub returns-in-Ok : goal.returns-in-Ok
+returns-in-Ok c =
     let a = c.args in
-    let z = ready_by a.self (length a.room.now) c.test_ready-first.ensures c.if-first-ne0.false in
-    keep _ _ refl
-    (open_ready a.self _ a.id a.count a.keys c.open_read-o.result z c.open_read-o.ensures) (ready_facts a.self (length a.room.now) z).sum
+    ignored_told _ c.ignored.ensures
+    (open_ready a.self _ a.id a.count a.keys _ (ready_open a.self (length a.room.now) c.in_default.ensures) c.in-Ok.ensures)
+    (ready_holds a.self (length a.room.now) c.in_default.ensures).sum
+
+pub returns-in-Err-open_read : goal.returns-in-Err-open_read
+returns-in-Err-open_read c =
+    let a = c.args in
+    let e = open_ready a.self _ a.id a.count a.keys _ (ready_open a.self (length a.room.now) c.in_default.ensures) c.in-Err-open_read.ensures in
+    refused_told _ _ c.refused-in-Err-open_read.ensures (rw c.from.ensures e)

@@ -4,14 +4,14 @@ use borrow.Author.Tests.{not-true, not-false}
 use Rattle.decide.specs.Decide.{is_stale}
 use Rattle.decide.specs.Ways.{flag}
 use Rattle.window.specs.Window.{slot_at}
-use Rattle.replica.specs.ActingLaws.{keep, told}
+use Rattle.replica.specs.ActingLaws.{ignored_told, told}
 use Rattle.replica.specs.CompletionLaws.{prepared_stale, prepared_follows, prepared_unbooked, prepared_past, prepared_replies, own_fits, promised_settles}
 use Rattle.replica.proofs.Replica.prepared_done.Goals as goal
 
 pub returns-then-is_stale : goal.returns-then-is_stale
 returns-then-is_stale c =
     let a = c.args in
-    keep 0 a.self c.kept.ensures (prepared_stale a.self a.i a.slot a.ballot _ (flag c.is_stale.ensures c.if-is_stale.true)) c.requires.sum
+    ignored_told a.self c.ignored.ensures (prepared_stale a.self a.i a.slot a.ballot _ (flag c.is_stale.ensures c.if-is_stale.true)) c.requires.sum
 
 pub settle-requires : goal.settle-requires
 settle-requires c =
@@ -19,22 +19,19 @@ settle-requires c =
 
 pub returns-then-sc : goal.returns-then-sc
 returns-then-sc c =
-    let heeded : is_stale c.args.self.sc (slot_at c.args.self.window c.args.i) c.args.ballot false ≡ false = flag c.is_stale.ensures c.if-is_stale.false in
     let a = c.args in
-    told (prepared_follows a.self a.i a.slot a.ballot _ _ heeded c.if-sc.true c.decide_promised-d.ensures) c.settle.ensures
+    told (prepared_follows a.self a.i a.slot a.ballot _ _ (flag c.is_stale.ensures c.if-is_stale.false) c.if-sc.true c.decide_promised-d.ensures) c.settle.ensures
 
 pub returns-then-not-s : goal.returns-then-not-s
 returns-then-not-s c =
-    let heeded : is_stale c.args.self.sc (slot_at c.args.self.window c.args.i) c.args.ballot false ≡ false = flag c.is_stale.ensures c.if-is_stale.false in
     let a = c.args in
-    keep 0 a.self c.kept-then-not-s.ensures (prepared_unbooked a.self a.i a.slot a.ballot _ heeded c.if-sc.false (not-true _ c.if-not-s.true))
+    ignored_told a.self c.ignored-then-not-s.ensures (prepared_unbooked a.self a.i a.slot a.ballot _ (flag c.is_stale.ensures c.if-is_stale.false) c.if-sc.false (not-true _ c.if-not-s.true))
     c.requires.sum
 
 pub returns-then-s-slot : goal.returns-then-s-slot
 returns-then-s-slot c =
-    let heeded : is_stale c.args.self.sc (slot_at c.args.self.window c.args.i) c.args.ballot false ≡ false = flag c.is_stale.ensures c.if-is_stale.false in
     let a = c.args in
-    keep 0 a.self c.kept-then-s-slot.ensures (prepared_past a.self a.i a.slot a.ballot _ heeded c.if-sc.false c.if-s-slot.true)
+    ignored_told a.self c.ignored-then-s-slot.ensures (prepared_past a.self a.i a.slot a.ballot _ (flag c.is_stale.ensures c.if-is_stale.false) c.if-sc.false c.if-s-slot.true)
     c.requires.sum
 
 pub reply_on-requires : goal.reply_on-requires
@@ -43,6 +40,5 @@ reply_on-requires c =
 
 pub returns : goal.returns
 returns c =
-    let heeded : is_stale c.args.self.sc (slot_at c.args.self.window c.args.i) c.args.ballot false ≡ false = flag c.is_stale.ensures c.if-is_stale.false in
     let a = c.args in
-    told (prepared_replies a.self a.i a.slot a.ballot _ heeded c.if-sc.false _ (not-false _ c.if-not-s.false) c.if-s-slot.false c.own_reply-m.ensures) c.reply_on.ensures
+    told (prepared_replies a.self a.i a.slot a.ballot _ (flag c.is_stale.ensures c.if-is_stale.false) c.if-sc.false _ (not-false _ c.if-not-s.false) c.if-s-slot.false c.own_reply-m.ensures) c.reply_on.ensures

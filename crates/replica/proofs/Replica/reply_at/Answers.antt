@@ -2,10 +2,20 @@ use native.Mathlib.Omega.{arith}
 use mathlib.Core.Path.{◌≡◌, refl}
 use borrow.Author.Tests.{ne_eqb, not-true, not-false}
 use Rattle.window.specs.Window.{put_slot}
-use Rattle.replica.specs.ActingLaws.{refuse}
+use Rattle.decide.specs.Weighing.{as_weighed}
+use Rattle.decide.specs.Laws.{refused_some}
+use Rattle.replica.specs.ActingLaws.{refused_told}
 use Rattle.replica.specs.Replying.{swept_to}
 use Rattle.replica.specs.ReplyLaws.{swept_end, Weighs, Weighs-read, more_few, reply_refused, reply_full, reply_told, reply_still}
 use Rattle.replica.proofs.Replica.reply_at.Goals as goal
+use Rattle.replica.proofs.Replica.reply_at.Goals.{In-Ok}
+
+-- what was decided, of the slots and the counts that the code has read
+weighs : (c : In-Ok) → Weighs c.args.self c.args.peer c.args.m c.args.i c.args.j (put_slot c.append-w.result c.args.i c.noted-s.result) c.with_fallen-fallen.result (as_weighed c.in-Ok.g)
+weighs c =
+    let a = c.args in
+    Weighs-read a.self a.peer a.m a.i a.j (put_slot c.append-w.result a.i c.noted-s.result) _ _ c.requires (omega (arith, c.well_formed, c.requires)) c.new_book-book.ensures
+    c.append-w.ensures c.strict-strict.ensures c.noted-s.ensures refl c.with_fallen-fallen.ensures c.counts-counts.ensures c.in-Ok.ensures
 
 pub offset_bounds-w-i-2 : goal.offset_bounds-w-i-2
 offset_bounds-w-i-2 c = omega (arith, c.requires)
@@ -19,18 +29,19 @@ offset_bounds-w-j c = omega (arith, c.requires)
 pub bounds-w-j : goal.bounds-w-j
 bounds-w-j c = omega (arith, c.requires)
 
-pub returns-then-g-ne0 : goal.returns-then-g-ne0
-returns-then-g-ne0 c =
-    let weighs : Weighs c.args.self c.args.peer c.args.m c.args.i c.args.j ((put_slot c.append-w.result c.args.i c.noted-s.result)) c.with_fallen-fallen.result c.weigh-g.result = let a_weighs = c.args in Weighs-read a_weighs.self a_weighs.peer a_weighs.m a_weighs.i a_weighs.j ((put_slot c.append-w.result c.args.i c.noted-s.result)) _ _ c.requires (omega (arith, c.well_formed, c.requires)) c.new_book-book.ensures c.append-w.ensures c.strict-strict.ensures c.noted-s.ensures refl c.with_fallen-fallen.ensures c.counts-counts.ensures c.weigh-g.ensures in
+pub returns-in-Err : goal.returns-in-Err
+returns-in-Err c =
     let a = c.args in
-    refuse _ a.self c.kept.ensures (reply_refused a.self a.peer a.m a.i a.j _ _ _ weighs c.if-g-ne0.true) (ne_eqb _ 0 c.if-g-ne0.true)
+    let weighs = Weighs-read a.self a.peer a.m a.i a.j (put_slot c.append-w.result a.i c.noted-s.result) _ _ c.requires (omega (arith, c.well_formed, c.requires)) c.new_book-book.ensures
+    c.append-w.ensures c.strict-strict.ensures c.noted-s.ensures refl c.with_fallen-fallen.ensures c.counts-counts.ensures c.in-Err.ensures in
+    refused_told _ a.self c.refused.ensures (rw c.from.ensures (reply_refused a.self a.peer a.m a.i a.j _ _ _ weighs (refused_some c.in-Err.refusal)))
 
 pub returns-then-too_many : goal.returns-then-too_many
 returns-then-too_many c =
-    let weighs : Weighs c.args.self c.args.peer c.args.m c.args.i c.args.j ((put_slot c.append-w.result c.args.i c.noted-s.result)) c.with_fallen-fallen.result c.weigh-g.result = let a_weighs = c.args in Weighs-read a_weighs.self a_weighs.peer a_weighs.m a_weighs.i a_weighs.j ((put_slot c.append-w.result c.args.i c.noted-s.result)) _ _ c.requires (omega (arith, c.well_formed, c.requires)) c.new_book-book.ensures c.append-w.ensures c.strict-strict.ensures c.noted-s.ensures refl c.with_fallen-fallen.ensures c.counts-counts.ensures c.weigh-g.ensures in
+    let known = weighs (goal.at.returns-then-too_many c).In-Ok in
     let a = c.args in
-    refuse 7 a.self c.kept-then-too_many.ensures
-    (reply_full a.self a.peer a.m a.i a.j _ _ _ weighs c.if-g-ne0.false c.too_many.ensures c.if-too_many.true) refl
+    refused_told _ a.self c.refused-then-too_many.ensures
+    (reply_full a.self a.peer a.m a.i a.j _ _ _ known refl c.too_many.ensures c.if-too_many.true)
 
 pub offset_bounds-w-i-3 : goal.offset_bounds-w-i-3
 offset_bounds-w-i-3 c = omega (arith, c.requires)
@@ -46,22 +57,22 @@ bounds-w-j-2 c = omega (arith, c.requires)
 
 pub returns-then-not-g : goal.returns-then-not-g
 returns-then-not-g c =
-    let weighs : Weighs c.args.self c.args.peer c.args.m c.args.i c.args.j ((put_slot c.append-w.result c.args.i c.noted-s.result)) c.with_fallen-fallen.result c.weigh-g.result = let a_weighs = c.args in Weighs-read a_weighs.self a_weighs.peer a_weighs.m a_weighs.i a_weighs.j ((put_slot c.append-w.result c.args.i c.noted-s.result)) _ _ c.requires (omega (arith, c.well_formed, c.requires)) c.new_book-book.ensures c.append-w.ensures c.strict-strict.ensures c.noted-s.ensures refl c.with_fallen-fallen.ensures c.counts-counts.ensures c.weigh-g.ensures in
+    let known = weighs (goal.at.returns-then-not-g c).In-Ok in
     let a = c.args in
-    reply_still a.self a.peer a.m a.i a.j _ _ _ weighs c.requires c.if-g-ne0.false c.too_many.ensures c.if-too_many.false c.put_promises-k.ensures
-    (not-true c.weigh-g.result.enters c.if-not-g.true) c.with_bar-table.ensures c.note_if-noted.ensures
+    reply_still a.self a.peer a.m a.i a.j _ _ _ known c.requires refl c.too_many.ensures c.if-too_many.false c.put_promises-k.ensures
+    (not-true c.in-Ok.g.enters c.if-not-g.true) c.with_bar-self.ensures c.note_if-self.ensures
 
 pub overflow_sub-bar : goal.overflow_sub-bar
 overflow_sub-bar c = omega (arith, c.requires.commit_low)
 
 pub overflow_add-accepting : goal.overflow_add-accepting
 overflow_add-accepting c =
-    let weighs : Weighs c.args.self c.args.peer c.args.m c.args.i c.args.j ((put_slot c.append-w.result c.args.i c.noted-s.result)) c.with_fallen-fallen.result c.weigh-g.result = let a_weighs = c.args in Weighs-read a_weighs.self a_weighs.peer a_weighs.m a_weighs.i a_weighs.j ((put_slot c.append-w.result c.args.i c.noted-s.result)) _ _ c.requires (omega (arith, c.well_formed, c.requires)) c.new_book-book.ensures c.append-w.ensures c.strict-strict.ensures c.noted-s.ensures refl c.with_fallen-fallen.ensures c.counts-counts.ensures c.weigh-g.ensures in
-    let whole : c.append-w.result.len ≡ swept_to ((put_slot c.append-w.result c.args.i c.noted-s.result)) c.args.j c.weigh-g.result = swept_end ((put_slot c.append-w.result c.args.i c.noted-s.result)) c.args.j c.weigh-g.result (not-false c.weigh-g.result.enters c.if-not-g.false) in
+    let known = weighs (goal.at.overflow_add-accepting c).In-Ok in
+    let whole = swept_end (put_slot c.append-w.result c.args.i c.noted-s.result) c.args.j (as_weighed c.in-Ok.g) (not-false c.in-Ok.g.enters c.if-not-g.false) in
     let a = c.args in
     omega (
       arith,
-      more_few a.self a.peer a.m a.i a.j _ _ _ weighs _ c.requires whole c.count_at-more.ensures,
+      more_few a.self a.peer a.m a.i a.j _ _ _ known _ c.requires whole c.count_at-more.ensures,
     )
 
 pub shape_of-room : goal.shape_of-room
@@ -70,8 +81,8 @@ shape_of-room c =
 
 pub returns : goal.returns
 returns c =
-    let weighs : Weighs c.args.self c.args.peer c.args.m c.args.i c.args.j ((put_slot c.append-w.result c.args.i c.noted-s.result)) c.with_fallen-fallen.result c.weigh-g.result = let a_weighs = c.args in Weighs-read a_weighs.self a_weighs.peer a_weighs.m a_weighs.i a_weighs.j ((put_slot c.append-w.result c.args.i c.noted-s.result)) _ _ c.requires (omega (arith, c.well_formed, c.requires)) c.new_book-book.ensures c.append-w.ensures c.strict-strict.ensures c.noted-s.ensures refl c.with_fallen-fallen.ensures c.counts-counts.ensures c.weigh-g.ensures in
-    let whole : c.append-w.result.len ≡ swept_to ((put_slot c.append-w.result c.args.i c.noted-s.result)) c.args.j c.weigh-g.result = swept_end ((put_slot c.append-w.result c.args.i c.noted-s.result)) c.args.j c.weigh-g.result (not-false c.weigh-g.result.enters c.if-not-g.false) in
+    let known = weighs (goal.at.returns c).In-Ok in
+    let whole = swept_end (put_slot c.append-w.result c.args.i c.noted-s.result) c.args.j (as_weighed c.in-Ok.g) (not-false c.in-Ok.g.enters c.if-not-g.false) in
     let a = c.args in
-    reply_told a.self a.peer a.m a.i a.j _ _ _ weighs c.requires c.if-g-ne0.false c.too_many.ensures c.if-too_many.false c.put_promises-k.ensures
-    whole c.strict-strict.ensures c.enter_range-p.ensures c.with_bar-table.ensures c.note_if-noted.ensures c.larger_of-low.ensures c.count_at-more.ensures
+    reply_told a.self a.peer a.m a.i a.j _ _ _ known c.requires refl c.too_many.ensures c.if-too_many.false c.put_promises-k.ensures
+    whole c.strict-strict.ensures c.enter_range-p.ensures c.with_bar-self.ensures c.note_if-self.ensures c.larger_of-low.ensures c.count_at-more.ensures

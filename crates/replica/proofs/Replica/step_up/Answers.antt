@@ -2,21 +2,21 @@ use mathlib.Core.Path.{refl, ◌∙◌}
 use native.Mathlib.Omega.{arith}
 use Rattle.window.specs.Laws.{last_open_within}
 use Rattle.window.specs.BoundedLaws.{last_open_in_lem}
-use Rattle.replica.specs.ActingLaws.{refuse, told}
+use Rattle.replica.specs.ActingLaws.{refused_told, told}
 use Rattle.replica.specs.ElectionLaws.{step_below, step_full, step_on, lead_fits}
 use Rattle.replica.proofs.Replica.step_up.Goals as goal
 
 pub returns-then-trigger-sc : goal.returns-then-trigger-sc
 returns-then-trigger-sc c =
-    refuse 8 c.args.self c.kept.ensures (step_below c.args.self _ c.requires c.args.ballot c.if-trigger-sc.true) refl
+    refused_told _ c.args.self c.refused.ensures (step_below c.args.self _ c.requires c.args.ballot c.if-trigger-sc.true)
 
 pub overflow_sub-open : goal.overflow_sub-open
 overflow_sub-open c =
     omega (arith, c.requires.exec_low)
 
-pub returns-then-open-ge64 : goal.returns-then-open-ge64
-returns-then-open-ge64 c =
-    refuse 5 c.args.self c.kept-then-open-ge64.ensures (step_full c.args.self _ c.requires c.args.ballot c.if-trigger-sc.false c.if-open-ge64.true) refl
+pub returns-then-open-ge-SLOTS : goal.returns-then-open-ge-SLOTS
+returns-then-open-ge-SLOTS c =
+    refused_told _ c.args.self c.refused-then-open-ge-SLOTS.ensures (step_full c.args.self _ c.requires c.args.ballot c.if-trigger-sc.false c.if-open-ge-SLOTS.true)
 
 pub overflow_add-endprep : goal.overflow_add-endprep
 overflow_add-endprep c =
@@ -24,8 +24,8 @@ overflow_add-endprep c =
 
 pub lead_on-requires : goal.lead_on-requires
 lead_on-requires c =
-    lead_fits c.args.self _ _ c.requires (omega (arith, c.if-open-ge64.false)) c.grow_to-w.ensures
+    lead_fits c.args.self _ _ c.requires (omega (arith, c.if-open-ge-SLOTS.false)) c.grow_to-w.ensures
 
 pub returns : goal.returns
 returns c =
-    told (step_on c.args.self _ c.requires c.args.ballot c.if-trigger-sc.false c.if-open-ge64.false c.last_open-last.ensures c.grow_to-w.ensures) c.lead_on.ensures
+    told (step_on c.args.self _ c.requires c.args.ballot c.if-trigger-sc.false c.if-open-ge-SLOTS.false c.last_open-last.ensures c.grow_to-w.ensures) c.lead_on.ensures

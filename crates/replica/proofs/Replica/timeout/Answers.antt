@@ -1,39 +1,40 @@
 use borrow.Author.Tests.{ne_eqb}
 use mathlib.Core.Path.{refl, sym, ◌∙◌}
 use lib.ListN.{length}
-use Rattle.replica.specs.AdmitLaws.{member_facts}
-use Rattle.replica.specs.ActingLaws.{refuse, keep, told}
+use Rattle.replica.specs.SeenLaws.{refused_some}
+use Rattle.replica.specs.AdmitLaws.{member_open}
+use Rattle.replica.specs.ActingLaws.{refused_told, ignored_told, told}
 use Rattle.replica.specs.ElectionLaws.{timeout_refused, timeout_ignored, timeout_goes, step_spent, Ready-fits}
 use Rattle.replica.proofs.Replica.timeout.Goals as goal
 
-pub returns-then-first-ne0 : goal.returns-then-first-ne0
-returns-then-first-ne0 c =
+pub returns-in-Err : goal.returns-in-Err
+returns-in-Err c =
     let a = c.args in
-    refuse _ a.self c.kept.ensures (timeout_refused a.self (length a.room.now) a.source _ c.from_member-first.ensures c.if-first-ne0.true) (ne_eqb _ 0 c.if-first-ne0.true)
+    refused_told _ a.self c.refused.ensures (timeout_refused a.self (length a.room.now) a.source _ c.in-Err.ensures (refused_some _))
 
 pub returns-then-ignores_timeout : goal.returns-then-ignores_timeout
 returns-then-ignores_timeout c =
     let a = c.args in
-    keep 0 a.self c.kept-then-ignores_timeout.ensures
-    (timeout_ignored a.self (length a.room.now) a.source _ c.from_member-first.ensures c.if-first-ne0.false _ c.ignores_timeout.ensures c.if-ignores_timeout.true)
-    (member_facts a.self (length a.room.now) a.source (sym c.from_member-first.ensures ∙ c.if-first-ne0.false)).facts.sum
+    ignored_told a.self c.ignored.ensures
+    (timeout_ignored a.self (length a.room.now) a.source _ c.in_default.ensures refl _ c.ignores_timeout.ensures c.if-ignores_timeout.true)
+    (member_open a.self (length a.room.now) a.source c.in_default.ensures).sum
 
-pub returns-in_default : goal.returns-in_default
-returns-in_default c =
+pub returns-in_default-next_ballot : goal.returns-in_default-next_ballot
+returns-in_default-next_ballot c =
     let a = c.args in
-    refuse 8 a.self c.kept-in_default.ensures
-    (timeout_goes a.self (length a.room.now) a.source _ c.from_member-first.ensures c.if-first-ne0.false _ c.ignores_timeout.ensures c.if-ignores_timeout.false
-    c.next_ballot-next.ensures c.in_default.is ∙ step_spent a.self) refl
+    refused_told _ a.self c.refused-in_default-next_ballot.ensures
+    (timeout_goes a.self (length a.room.now) a.source _ c.in_default.ensures refl _ c.ignores_timeout.ensures c.if-ignores_timeout.false
+    c.next_ballot.ensures c.in_default-next_ballot.is ∙ step_spent a.self)
 
 pub step_up-requires : goal.step_up-requires
 step_up-requires c =
     let a = c.args in
-    Ready-fits a.self _ (member_facts a.self (length a.room.now) a.source (sym c.from_member-first.ensures ∙ c.if-first-ne0.false)).facts
+    Ready-fits a.self _ (member_open a.self (length a.room.now) a.source c.in_default.ensures)
 
 pub returns : goal.returns
 returns c =
     let a = c.args in
     told
-    (timeout_goes a.self (length a.room.now) a.source _ c.from_member-first.ensures c.if-first-ne0.false _ c.ignores_timeout.ensures c.if-ignores_timeout.false
-    c.next_ballot-next.ensures c.in-Ballot.is)
+    (timeout_goes a.self (length a.room.now) a.source _ c.in_default.ensures refl _ c.ignores_timeout.ensures c.if-ignores_timeout.false
+    c.next_ballot.ensures c.in-Some.is)
     c.step_up.ensures

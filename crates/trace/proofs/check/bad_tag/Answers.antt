@@ -20,13 +20,13 @@ pub returns-then-entries-i-gt2 : goal.returns-then-entries-i-gt2
 returns-then-entries-i-gt2 c =
     let a = c.args in
     let i = c.loop-i.i in
-    sym (any_found (tag a.entries) 0 i a.count (omega arith) (omega arith) (lt-ltb 2 (get_or a.entries (3 * i) 0) c.if-entries-i-gt2.true))
+    sym (any_found (tag a.entries.now) 0 i a.count (omega arith) (omega arith) (lt-ltb 2 (get_or a.entries.now (3 * i) 0) c.if-entries-i-gt2.true))
 
 pub loop-i-preserved : goal.loop-i-preserved
 loop-i-preserved c =
     let a = c.args in
     let l = c.loop-i in
-    (any_more (tag a.entries) 0 l.i (omega arith) l.invariant.0 (le-ltb 2 (get_or a.entries (3 * l.i) 0) c.if-entries-i-gt2.false), omega arith)
+    (any_more (tag a.entries.now) 0 l.i (omega arith) l.invariant.0 (le-ltb 2 (get_or a.entries.now (3 * l.i) 0) c.if-entries-i-gt2.false), omega arith)
 
 pub returns : goal.returns
 returns c =

@@ -5,7 +5,7 @@ pub returns : goal.returns
 returns c =
     let a = c.args in
     fields_read a.bytes.now a.at _ _ _ _ _ _ _ _ _ _ _ _
-    c.wide.ensures c.wide-2.ensures c.wide-3.ensures c.index.ensures
+    c.from.ensures c.from-2.ensures c.from-3.ensures c.from-4.ensures
     c.number_at.ensures c.number_at-2.ensures
     c.number_at-3.ensures c.number_at-4.ensures
-    c.number_at-5.ensures c.number_at-6.ensures c.number_at-7.ensures c.numbers-entries.ensures
+    c.number_at-5.ensures c.number_at-6.ensures c.number_at-7.ensures c.numbers.ensures

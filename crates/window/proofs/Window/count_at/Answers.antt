@@ -1,33 +1,22 @@
-use mathlib.Core.Path.{sym}
-use native.Mathlib.Omega.{arith}
-use lib.Dec.{eqb}
-use Rattle.base.specs.HowMany.{how_many_none}
-use Rattle.window.specs.Window.{slot_at}
-use Rattle.window.specs.Summary.{has_status}
-use Rattle.window.specs.KeptLaws.{one_small, counted_out, counted_end, counted_more}
+use mathlib.Core.Path.{◌≡◌, ◌∙◌}
+use Rattle.std.specs.Prelude.{Bool, eqb, length}
+use Rattle.std.proofs.Common.{rules}
+use Rattle.std.proofs.lemmas.Iterator.{YieldsList-from_slice}
+use Rattle.std.proofs.lemmas.Iterator.Consumers.{count_from_yields_List, YieldsList-from_filter}
+use Rattle.base.specs.Pick.{tests}
+use Rattle.base.specs.Spans.{span}
+use Rattle.slots.specs.declared.Slot.{Slot}
+use Rattle.window.specs.KeptLaws.{counted_nowhere, counted_span}
 use Rattle.window.proofs.Window.count_at.Goals as goal
 
-pub returns-then-to-gt64 : goal.returns-then-to-gt64
-returns-then-to-gt64 c =
-    let a = c.args in
-    counted_out a.self a.status a.from a.to c.if-to-gt64.true
-
-pub loop-i-init : goal.loop-i-init
-loop-i-init c =
-    let a = c.args in
-    (sym (how_many_none (has_status a.self a.status) a.from a.from (omega arith)), omega arith)
-
-pub overflow_add-n : goal.overflow_add-n
-overflow_add-n c =
-    let a = c.args in
-    omega (arith, one_small (eqb (slot_at a.self c.loop-i.i).status a.status) _ c.one_if-more.ensures)
-
-pub loop-i-preserved : goal.loop-i-preserved
-loop-i-preserved c =
-    let a = c.args in
-    (counted_more a.self a.status a.from a.to c.loop-i.i _ _ c.loop-i.invariant.1.0 c.loop-i.invariant.0 c.one_if-more.ensures, omega (arith, one_small (eqb (slot_at a.self c.loop-i.i).status a.status) _ c.one_if-more.ensures))
+pub returns-then-to-gt-SLOTS : goal.returns-then-to-gt-SLOTS
+returns-then-to-gt-SLOTS c = let a = c.args in counted_nowhere a.self a.status a.from a.to c.then-to-gt-SLOTS.either
 
 pub returns : goal.returns
 returns c =
     let a = c.args in
-    counted_end a.self a.status a.from a.to c.loop-i.i _ c.if-to-gt64.false c.loop-i.invariant.1.0 (omega arith) c.loop-i.invariant.1.1.0 c.loop-i.invariant.0
+    let long : length a.self.slots ≡ 64 = search rules in
+    let p : Slot → Bool = λ s. eqb s.status a.status in
+    count_from_yields_List _ c.count.result c.count.ensures.ran
+    (YieldsList-from_filter _ p (YieldsList-from_slice (span a.from a.to a.self.slots) (cc)) c.filter.ensures.closure (λ x b q k. search (rules, tests)))
+    ∙ counted_span a.self a.status a.from a.to long c.if-to-gt-SLOTS.false

@@ -1,29 +1,23 @@
-use mathlib.Core.Path.{refl, sym, ◌∙◌}
+use mathlib.Core.Path.{◌≡◌}
 use native.Mathlib.Omega.{arith}
-use lib.Dec.{eqb}
-use borrow.Author.Tests.{eq-eqb, ne_eqb}
-use Rattle.base.specs.Scan.{scan_on, scan_stop, scan_end}
-use Rattle.window.specs.Window.{slot_at}
-use Rattle.window.specs.BoundedLaws.{executed_in_lem, executed_out}
+use Rattle.std.specs.Prelude.{Bool, not, eqb, length}
+use Rattle.std.proofs.Common.{rules}
+use Rattle.std.proofs.lemmas.Iterator.{YieldsList-from_slice}
+use Rattle.std.proofs.lemmas.Iterator.Search.{position_from_yields_List}
+use Rattle.base.specs.Pick.{tests}
+use Rattle.base.specs.Spans.{span}
+use Rattle.slots.specs.declared.Slot.{Slot}
+use Rattle.window.specs.BoundedLaws.{executed_nowhere, executed_found}
 use Rattle.window.proofs.Window.executed_to.Goals as goal
 
-pub returns-then-to-gt64 : goal.returns-then-to-gt64
-returns-then-to-gt64 c = let a = c.args in sym (executed_out a.self a.from a.to c.if-to-gt64.true)
-
-pub loop-i-init : goal.loop-i-init
-loop-i-init c = refl
-
-pub returns-then-s-ne4 : goal.returns-then-s-ne4
-returns-then-s-ne4 c =
-    let a = c.args in
-    sym (scan_stop (λ j. eqb (slot_at a.self j).status 4) c.loop-i.i a.to (omega arith) (ne_eqb _ 4 c.if-s-ne4.true)) ∙ c.loop-i.invariant ∙ sym (executed_in_lem a.self a.from a.to c.if-to-gt64.false)
-
-pub loop-i-preserved : goal.loop-i-preserved
-loop-i-preserved c =
-    let a = c.args in
-    sym (scan_on (λ j. eqb (slot_at a.self j).status 4) c.loop-i.i a.to (omega arith) (eq-eqb _ 4 c.if-s-ne4.false)) ∙ c.loop-i.invariant
+pub returns-then-to-gt-SLOTS : goal.returns-then-to-gt-SLOTS
+returns-then-to-gt-SLOTS c = let a = c.args in executed_nowhere a.self a.from a.to c.then-to-gt-SLOTS.either
 
 pub returns : goal.returns
 returns c =
     let a = c.args in
-    sym (scan_end (λ j. eqb (slot_at a.self j).status 4) c.loop-i.i a.to (omega arith)) ∙ c.loop-i.invariant ∙ sym (executed_in_lem a.self a.from a.to c.if-to-gt64.false)
+    let long : length a.self.slots ≡ 64 = search rules in
+    let p : Slot → Bool = λ s. not (eqb s.status 4) in
+    executed_found a.self a.from a.to c.unwrap_or.result c.position-found.result long (omega arith) c.if-to-gt-SLOTS.false
+    (position_from_yields_List p _ _ c.position-found.result c.position-found.ensures.ran (YieldsList-from_slice (span a.from a.to a.self.slots) (cc)) (λ x b q k. search (rules, tests)))
+    c.unwrap_or.ensures

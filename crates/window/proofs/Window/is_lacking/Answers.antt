@@ -1,25 +1,20 @@
-use mathlib.Core.Path.{sym, ◌∙◌}
-use native.Mathlib.Omega.{arith}
-use Rattle.window.specs.CountingLaws.{lacking_out, lacking_self, lacking_more, lacking_found, lacking_end}
+use mathlib.Core.Path.{◌≡◌, ◌∙◌}
+use Rattle.std.specs.Prelude.{length}
+use Rattle.std.proofs.Common.{rules}
+use Rattle.std.proofs.lemmas.Iterator.{YieldsList-from_slice}
+use Rattle.std.proofs.lemmas.Iterator.Search.{any_from_yields_List}
+use Rattle.base.specs.Pick.{tests}
+use Rattle.base.specs.Spans.{span}
+use Rattle.slots.specs.Slots.{lacks_note}
+use Rattle.window.specs.CountingLaws.{lacking_nowhere, lacking_span}
 use Rattle.window.proofs.Window.is_lacking.Goals as goal
 
-pub returns-then-to-gt64 : goal.returns-then-to-gt64
-returns-then-to-gt64 c = let a = c.args in sym (lacking_out a.self a.peer a.from a.to c.if-to-gt64.true)
-
-pub loop-i-init : goal.loop-i-init
-loop-i-init c = let a = c.args in (lacking_self a.self a.peer a.from, omega arith)
-
-pub returns-then-lacks_note : goal.returns-then-lacks_note
-returns-then-lacks_note c =
-    let a = c.args in
-    lacking_found a.self a.peer a.from c.loop-i.i a.to c.loop-i.invariant.1.0 (omega arith) c.if-to-gt64.false (sym c.lacks_note.ensures ∙ c.if-lacks_note.true)
-
-pub loop-i-preserved : goal.loop-i-preserved
-loop-i-preserved c =
-    let a = c.args in
-    (lacking_more a.self a.peer a.from c.loop-i.i c.loop-i.invariant.1.0 c.loop-i.invariant.0 (sym c.lacks_note.ensures ∙ c.if-lacks_note.false), omega arith)
+pub returns-then-to-gt-SLOTS : goal.returns-then-to-gt-SLOTS
+returns-then-to-gt-SLOTS c = let a = c.args in lacking_nowhere a.self a.peer a.from a.to c.then-to-gt-SLOTS.either
 
 pub returns : goal.returns
 returns c =
     let a = c.args in
-    lacking_end a.self a.peer a.from c.loop-i.i a.to c.loop-i.invariant.1.0 (omega arith) c.loop-i.invariant.1.1 c.if-to-gt64.false c.loop-i.invariant.0
+    let long : length a.self.slots ≡ 64 = search rules in
+    any_from_yields_List (lacks_note a.peer) _ _ c.any.result c.any.ensures.ran (YieldsList-from_slice (span a.from a.to a.self.slots) (cc)) (λ x b q k. search (rules, tests))
+    ∙ lacking_span a.self a.peer a.from a.to long c.if-to-gt-SLOTS.false

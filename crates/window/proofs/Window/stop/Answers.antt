@@ -1,33 +1,23 @@
-use mathlib.Core.Path.{refl, sym, ◌∙◌}
+use mathlib.Core.Path.{◌≡◌}
 use native.Mathlib.Omega.{arith}
-use Rattle.base.specs.Scan.{scan_on, scan_stop, scan_end}
-use Rattle.window.specs.Laws.{passes_low, passes_early, passes_both}
-use Rattle.window.specs.BoundedLaws.{stop_in_lem, stop_out}
-use Rattle.window.specs.Bounded.{passes}
+use Rattle.std.specs.Prelude.{Bool, ◌||◌, ltb, length}
+use Rattle.std.proofs.Common.{rules}
+use Rattle.std.proofs.lemmas.Iterator.{YieldsList-from_slice}
+use Rattle.std.proofs.lemmas.Iterator.Search.{position_from_yields_List}
+use Rattle.base.specs.Pick.{tests}
+use Rattle.base.specs.Spans.{span}
+use Rattle.slots.specs.declared.Slot.{Slot}
+use Rattle.window.specs.BoundedLaws.{stop_nowhere, stop_found}
 use Rattle.window.proofs.Window.stop.Goals as goal
 
-pub returns-then-to-gt64 : goal.returns-then-to-gt64
-returns-then-to-gt64 c = let a = c.args in sym (stop_out a.self a.from a.to a.ballot a.status c.if-to-gt64.true)
-
-pub loop-i-init : goal.loop-i-init
-loop-i-init c = refl
-
-pub returns-then-s-ballot : goal.returns-then-s-ballot
-returns-then-s-ballot c =
-    let a = c.args in
-    sym (scan_stop (passes a.self a.ballot a.status) c.loop-i.i a.to (omega arith) (passes_low a.self a.ballot a.status c.loop-i.i c.if-s-ballot.true)) ∙ c.loop-i.invariant ∙ sym (stop_in_lem a.self a.from a.to a.ballot a.status c.if-to-gt64.false)
-
-pub returns-then-s-status : goal.returns-then-s-status
-returns-then-s-status c =
-    let a = c.args in
-    sym (scan_stop (passes a.self a.ballot a.status) c.loop-i.i a.to (omega arith) (passes_early a.self a.ballot a.status c.loop-i.i c.if-s-status.true)) ∙ c.loop-i.invariant ∙ sym (stop_in_lem a.self a.from a.to a.ballot a.status c.if-to-gt64.false)
-
-pub loop-i-preserved : goal.loop-i-preserved
-loop-i-preserved c =
-    let a = c.args in
-    sym (scan_on (passes a.self a.ballot a.status) c.loop-i.i a.to (omega arith) (passes_both a.self a.ballot a.status c.loop-i.i c.if-s-ballot.false c.if-s-status.false)) ∙ c.loop-i.invariant
+pub returns-then-to-gt-SLOTS : goal.returns-then-to-gt-SLOTS
+returns-then-to-gt-SLOTS c = let a = c.args in stop_nowhere a.self a.from a.to a.ballot a.status c.then-to-gt-SLOTS.either
 
 pub returns : goal.returns
 returns c =
     let a = c.args in
-    sym (scan_end (passes a.self a.ballot a.status) c.loop-i.i a.to (omega arith)) ∙ c.loop-i.invariant ∙ sym (stop_in_lem a.self a.from a.to a.ballot a.status c.if-to-gt64.false)
+    let long : length a.self.slots ≡ 64 = search rules in
+    let p : Slot → Bool = λ s. ltb s.ballot a.ballot || ltb s.status a.status in
+    stop_found a.self a.from a.to a.ballot a.status c.unwrap_or.result c.position-found.result long (omega arith) c.if-to-gt-SLOTS.false
+    (position_from_yields_List p _ _ c.position-found.result c.position-found.ensures.ran (YieldsList-from_slice (span a.from a.to a.self.slots) (cc)) (λ x b q k. search (rules, tests)))
+    c.unwrap_or.ensures

@@ -1,13 +1,7 @@
 use Rattle.std.proofs.Common.{◌≡◌, sym, refl, ◌∙◌, arith}
 use Rattle.words.specs.Sums.{total}
-use Rattle.words.specs.SumLaws.{sum_past, sum_here, sum_turn}
+use Rattle.words.specs.SumLaws.{sum_here, sum_turn}
 use Rattle.words.proofs.sum.sum_at.Goals as goal
-
-pub returns-then-bytes-at : goal.returns-then-bytes-at
-returns-then-bytes-at c = let a = c.args in sym (sum_past a.bytes.now a.at a.n a.out (omega arith))
-
-pub returns-then-bytes-at-2 : goal.returns-then-bytes-at-2
-returns-then-bytes-at-2 c = let a = c.args in sym (sum_past a.bytes.now a.at a.n a.out (omega arith))
 
 pub loop-i-init : goal.loop-i-init
 unfolding total
@@ -16,7 +10,7 @@ loop-i-init c = (refl, omega arith)
 pub loop-i-preserved : goal.loop-i-preserved
 loop-i-preserved c =
     let a = c.args in
-    (c.wrapping_add_u32-sum.ensures.value ∙ sum_turn a.bytes.now a.at a.out c.loop-i.i _ _ c.loop-i.invariant.0 c.summand-w.ensures, omega arith)
+    (sum_turn a.bytes.now a.at a.out c.loop-i.i _ _ c.loop-i.invariant.0 c.summand-sum.ensures, omega arith)
 
 pub returns : goal.returns
 returns c =

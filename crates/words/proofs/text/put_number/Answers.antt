@@ -7,11 +7,6 @@ returns-then-text-width c =
     let a = c.args in
     number_left a.text.now a.at a.n _ c.width_of-width.ensures (omega arith)
 
-pub returns-then-text-width-2 : goal.returns-then-text-width-2
-returns-then-text-width-2 c =
-    let a = c.args in
-    number_left a.text.now a.at a.n _ c.width_of-width.ensures (omega arith)
-
 pub returns : goal.returns
 returns c =
     let a = c.args in

@@ -1,4 +1,0 @@
-use Rattle.tally.proofs.Read.with_ack.Goals as goal
-
-pub returns : goal.returns
-returns c = rw c.with-acks.ensures
