@@ -16,6 +16,7 @@ pub const ROW: usize = 18;
 pub const ROOM: usize = 3456;
 
 // As a member: all but self.
+// Kept: a number, since 01 writes the receiver into the numbers of an action, among those of the members (`everyone`, `numbers_of`).
 const EVERYONE: u64 = 255;
 
 // The content of a PrepareBal entry.
@@ -35,7 +36,8 @@ pub struct Proposal {
 }
 
 // The content of a CommitSlot entry: the slot and, since 02's fifth wish, its ballot.
-// Kept: it has the fields of `Promise`, but it is another content, and the theorems name both.
+// Kept: it has the fields of `Promise`, but both are public names, each of its own action (docs/HOST.md): a host that makes or matches an `Action` writes them,
+// 01 has "structs without arrays in action cases", and `numbers_of` tells the two by their cases.
 #[derive(Clone, Copy, Debug, PartialEq, Eq)]
 pub struct Mark {
     pub slot: u64,
@@ -91,6 +93,7 @@ pub struct Order {
 pub struct Answered {
     pub read: u64,
     pub place: u64,
+    // Kept: a number, since 01 has it among the numbers of the action (`numbers_of`), and `read_act` promises the action of a row whatever number stands there.
     pub tag: u64,
     pub value: u64,
 }

@@ -22,9 +22,11 @@ pub struct Batch {
 }
 
 // The highest slot seen for each key: the first `count` places are in use.
-// Kept: two arrays beside a count. Pairs in one array are slower: a search that misses 256 keys took 126 ns here and 287 ns over pairs, and 309 and 661 ns
-// in tables that aren't in the cache (rustc -O; 152 and 272, 359 and 674 for x86-64-v2), since twice the memory is read.
-#[derive(Clone, Copy)]
+// Kept: two arrays beside a count. Pairs in one array were tried, and they miss a bar of speed that this form meets: the search of a full table for a key that
+// it lacks, in no more than today's time. It took 126 ns here and 287 ns over pairs, and 309 and 661 ns in tables that aren't in the cache (rustc -O; 152 and
+// 272, 359 and 674 for x86-64-v2), since over pairs twice the memory is read. No `==` is derived: two tables that know the same differ where places past the
+// count do.
+#[derive(Clone, Copy, Debug)]
 pub struct KeyTable {
     pub count: usize,
     pub keys: [u64; TABLE],
@@ -43,6 +45,8 @@ pub fn empty_batch() -> Batch
 }
 
 // Eight keys, those past the count 0.
+// Kept: here and below `min` of a count and the room, and the tests of a count past it, since the fields are public and the promises speak of every count
+// (`first_keys` and `same_batch` by `clip`, `place_in`, `note_key`, `overfull`).
 pub fn first_keys(count: usize, keys: [u64; KEYS]) -> [u64; KEYS]
     ensures { result ≡ first_keys count keys }
 {
@@ -108,6 +112,7 @@ pub fn empty_table() -> KeyTable
 
 impl KeyTable {
     // The first place in use that holds the key, or how many are in use.
+    // Kept: a number and no Option, since that is what `place_in` promises any caller: the count where no place holds the key.
     pub fn find(&self, key: u64) -> usize
         ensures { result ≡ place_of self.now key }
     {
@@ -156,6 +161,7 @@ impl KeyTable {
         requires { n ≤ 8 }
         ensures { result ≡ new_keys self.now.keys self.now.count keys.now n }
     {
+        // Kept: `(0..n).filter(|i| self.is_new(keys, *i)).count()` was tried, and the proof did not close: that its count is `new_keys` was not found.
         let mut fresh: usize = 0;
         for i in 0..n {
             fresh += usize::from(self.is_new(keys, i));

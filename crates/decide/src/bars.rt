@@ -1,11 +1,11 @@
 // The peer accept table: the accept bar that each member last told its leader.
 ghost use Rattle.std.specs.Prelude.{◌≡◌, ◌||◌, eqb};
-ghost use Rattle.base.specs.Pick.{one};
 ghost use Rattle.decide.specs.Bars.{unknown_bars, bar_of, has_entry, not_above, least_majority, with_bar, with_fallen};
 ghost use Rattle.decide.specs.Turns.{entry_not_above, lesser};
 
 use crate::numbers::UNKNOWN_BAR;
 use crate::{PeerBars, Scalars};
+use members::MEMBERS;
 
 // Nothing known of any member; `own` says whether self has an entry.
 pub fn unknown_bars(own: bool) -> PeerBars
@@ -19,6 +19,7 @@ pub fn unknown_bars(own: bool) -> PeerBars
 
 impl PeerBars {
     // A member's bar, 0 where there is no such place.
+    // Kept: this test, here and below: what may not change: `PeerBars::with_bar` and `PeerBars::with_fallen` take any number for m.
     pub(crate) fn bar_of(self, m: u64) -> u64
         ensures { result ≡ bar_of self m }
     {
@@ -55,23 +56,20 @@ impl PeerBars {
         self
     }
 
-    // 1 where m has an entry that is not above a bar, else 0.
-    fn one_not_above(self, sc: Scalars, bar: u64, m: u64) -> u64
-        ensures { result ≡ one (entry_not_above sc self bar m) }
+    // Whether m has an entry that is not above a bar.
+    fn is_not_above(self, sc: Scalars, bar: u64, m: u64) -> bool
+        ensures { result ≡ entry_not_above sc self bar m }
     {
-        u64::from(self.has_entry(sc, m) && self.bar_of(m) <= bar)
+        self.has_entry(sc, m) && self.bar_of(m) <= bar
     }
 
     // How many entries are not above a bar.
     pub(crate) fn not_above(self, sc: Scalars, bar: u64) -> u64
         ensures { result ≡ not_above sc self bar }
     {
-        let mut n = 0;
-        // Kept: the new form is no plainer, here and in least_majority: m is a member, whose number has_entry tests, and not only a place
-        for m in 0..9 {
-            n += self.one_not_above(sc, bar, m);
-        }
-        n
+        (0..MEMBERS)
+            .filter(|m| self.is_not_above(sc, bar, *m))
+            .count() as u64
     }
 
     // The lesser of a bar and m's entry, where a quorum of entries is not above that.
@@ -96,7 +94,8 @@ impl PeerBars {
         ensures { result ≡ least_majority sc self 9 }
     {
         let mut least = UNKNOWN_BAR;
-        for m in 0..9 {
+        // Kept: the new form is no plainer: `(0..MEMBERS).fold(UNKNOWN_BAR, |least, m| self.lesser(sc, m, least))` names the same values once more.
+        for m in 0..MEMBERS {
             least = self.lesser(sc, m, least);
         }
         least

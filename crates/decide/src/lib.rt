@@ -38,6 +38,7 @@ pub struct Scalars {
 pub struct PeerBars {
     // Kept: what may not change: `PeerBars::with_bar` and `PeerBars::with_fallen` take a table with any bar of self, whatever the flag says
     pub own: bool,
+    // Kept: fixed memory, no heap; 2^64 - 1 says that nothing is known (01), no Option: `quorumth` (specs/Bars.antt) sorts it as the largest
     pub bars: [u64; 9],
 }
 
@@ -66,6 +67,7 @@ pub struct Decided {
     pub sc: Scalars,
     pub slot: Slot,
     pub says: Says,
+    // Kept: fixed memory, no heap: a batch has at most eight keys
     pub keys: [u64; 8],
 }
 

@@ -84,6 +84,7 @@ impl Scalars {
     }
 
     // Whether the numbers are fit for a log of so many slots.
+    // Kept: the length and its test: what may not change: any length may be given, and `fit_scalars` says that one past 64 is unfit.
     pub fn is_fit(self, len: usize) -> bool
         ensures { result ≡ fit_scalars self len }
     {

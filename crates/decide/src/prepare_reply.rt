@@ -1,6 +1,5 @@
 // A PrepareReply: its tests, a leader's own, and what it decides from the scalars, its slot and its trigger's.
 ghost use Rattle.std.specs.Prelude.{◌≡◌};
-ghost use Rattle.base.specs.Pick.{pick};
 ghost use Rattle.decide.specs.PrepareReply.{with_voted, in_log, own_reply};
 ghost use Rattle.decide.specs.Weighing.{unmoved, weighed, as_weighed, weighing};
 
@@ -8,13 +7,6 @@ use crate::replies::sent_vote;
 use crate::{Refusal, Reply, Scalars, Weighed};
 use batch::Batch;
 use slots::{Slot, Vote};
-
-// One of two slots, by a test.
-fn chosen_slot(test: bool, a: Slot, b: Slot) -> Slot
-    ensures { result ≡ pick test a b }
-{
-    if test { a } else { b }
-}
 
 impl Reply {
     // The reply with the batch of its vote, as the batch was made.
@@ -26,6 +18,7 @@ impl Reply {
     }
 
     // Whether the slot lies from trigger to endprep, and the trigger in the log: else 6.
+    // Kept: a start and a length, with their test: what may not change: `in_log` takes any of both.
     #[tactic(auto, using(crate::specs::ReplyWays::place_below))]
     pub fn is_in_log(self, start: u64, len: usize) -> bool
         ensures { result ≡ in_log start len self }
@@ -68,6 +61,7 @@ impl Scalars {
     }
 
     // What a PrepareReply decides from the scalars, its slot and its trigger's (the same slot where `own` is true), and whether its member counts.
+    // Kept: what may not change: `weighed` (specs/Weighing.antt) takes a second slot also where `own` holds, and `unmoved` hands it back as it was.
     pub fn weigh(
         self,
         s: Slot,
@@ -83,7 +77,7 @@ impl Scalars {
             return Ok(self.unmoved(s, t));
         }
         let v = self.decide_vote(s, m.ballot, m.voted, m.vote)?;
-        let base = chosen_slot(own, v.slot, t);
+        let base = if own { v.slot } else { t };
         if !counts {
             return Ok(Weighed {
                 noted: v.noted,

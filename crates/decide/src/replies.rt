@@ -34,6 +34,7 @@ pub(crate) fn sent_vote(s: Slot) -> Vote
 }
 
 // Whether a PrepareReply is neither a duplicate nor outdated.
+// Kept: here and below: a status is a number, see `slots::NULL`.
 pub(crate) fn awaits_prepare(s: Slot, ballot: u64) -> bool
     ensures { result ≡ awaits_prepare s ballot }
 {
@@ -159,6 +160,7 @@ impl Scalars {
     }
 
     // The vote of a PrepareReply replaces only on a strictly larger ballot.
+    // Kept: what may not change: `decide_vote` (specs/Decide.antt) takes a vote also where none is present, as it stands in `Reply.vote` beside `Reply.voted`.
     pub(crate) fn decide_vote(
         self,
         s: Slot,

@@ -20,6 +20,7 @@ const LAST_OWNER: u64 = 254;
 const LAST_ROUND: u64 = 72057594037927935;
 
 // Whether a member is in a set.
+// Kept: here and below the tests of a member past 8, a set past 511, a group past 63, since the promises speak of every number (`has`, `insert`, `fits_group`).
 #[tactic(auto, unfolding(crate::specs::Sets::has))]
 pub fn contains(set: u64, member: u64) -> bool
     ensures { result ≡ has set member }

@@ -1,4 +1,6 @@
 // The vote count: how many members each of the 512 sets has; entry k is that of the set k. The program `counts` prints it.
+// Kept: written out, and read at `(set % 512) as usize`, since 01 names the form ("a table of 512 entries", its rule `table_counts` proved once by a computed
+// test), and `count_in` speaks of every set.
 
 pub(crate) const COUNTS: [u8; 512] = [
     // The sets 0 to 63.

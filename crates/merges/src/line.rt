@@ -13,6 +13,8 @@ pub(crate) struct Page<'a> {
 }
 
 // Tag, slot and value.
+// Kept: the program prints the same on every input. Where the text is full, a number that doesn't fit is left out whole and what follows it is still put;
+// `write!` with the Display of `Best` puts several numbers, or some of the digits, at once.
 fn best_row(best: Best) -> [u64; 3] {
     match best {
         Best::Nothing => [0, 0, 0],
@@ -27,6 +29,7 @@ impl<'a> Page<'a> {
     }
 
     // Each with a blank before it.
+    // Kept: the text is lent bytes of a fixed size, without a heap, and what `words::put_number` and `put_byte` leave in them, here and below, is proved.
     fn numbers(&mut self, numbers: &[u64]) {
         for n in numbers {
             self.byte(b' ');
@@ -35,10 +38,7 @@ impl<'a> Page<'a> {
     }
 
     pub(crate) fn line(&mut self, m: Merged) {
-        let answer = match m.outcome {
-            Ok(()) => 0,
-            Err(error) => error.number(),
-        };
+        let answer = m.outcome.err().map_or(0, |error| error.number());
         self.at = put_number(self.text, self.at, answer);
         self.numbers(&[m.tally.count as u64]);
         for key in m.tally.bests.iter().take(m.tally.count) {

@@ -55,6 +55,8 @@ impl<'a> Merging<'a> {
 }
 
 // Reads to the end, or until the bytes are full: a turn that does not end adds one byte at least.
+// Kept: `feed::each_block` gives the blocks one by one and stops where a read fails. Here the host's tally is merged after all is read, and what came before
+// a failed read, of which `failed` promises how much it is, is merged and printed all the same.
 fn filled(
     reader: &mut impl Read,
     errors: &impl Eprint,
@@ -64,7 +66,7 @@ fn filled(
     ensures failed { IfErr result (λ e. e.have ≤ length bytes.new) }
 {
     let mut have = 0;
-    for turn in 0..bytes.len() {
+    for _ in 0..bytes.len() {
         let input = read_more(reader, errors, bytes, have)?;
         have = input.have;
         if input.ended {
@@ -80,10 +82,7 @@ fn main(rt: HostRuntime) -> ExitCode {
     let mut text = [0u8; 262144];
     let (mut reader, mut writer) = (rt.stdin(), rt.stdout());
     let read = filled(&mut reader, &rt, &mut bytes);
-    let have = match read {
-        Ok(have) => have,
-        Err(failed) => failed.have,
-    };
+    let have = read.unwrap_or_else(|failed| failed.have);
     let mut merging = Merging {
         tally: nothing_known(0),
         page: Page {

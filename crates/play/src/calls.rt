@@ -22,6 +22,7 @@ fn refused(r: Replica, refusal: Refusal) -> Handled
 }
 
 // Kind 0. The room is lent for the promise alone, and stays as it is.
+// Kept: a rule of the project, here and below: 01 wants "action records in a lent buffer of numbers", and each call is lent that room.
 fn renew(r: Replica, room: &mut [u64], rec: Record) -> Handled
     ensures { Told (renewed r rec) (seen result) room.old room.new }
 {

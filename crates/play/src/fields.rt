@@ -47,6 +47,7 @@ pub(crate) fn reply_of(rec: Record) -> Reply
 }
 
 // The entry that a log completion names.
+// Kept: what may not change: `entry_of` of specs/Play is of any number, and says CommitSlot of all but 1 and 2; `is_malformed` refuses those above 3.
 fn entry_of(sub: u64) -> Entry
     ensures { result ≡ entry_of sub }
 {

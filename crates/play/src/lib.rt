@@ -21,6 +21,7 @@ pub struct Run {
     pub replica: Replica,
 }
 
+// Kept: what may not change: `line_of` promises of any answer, count and scalars (`line_from`), so no `Handled` stands in their place.
 /// The seven numbers that a record prints: its own, the answer, how many actions, and four of the replica's.
 pub fn line_of(number: u64, answer: u64, count: usize, sc: Scalars) -> [u64; 7]
     ensures { result ≡ line_from number answer count sc }

@@ -6,10 +6,12 @@ ghost use Rattle.play.specs.Lines.{item_text, end_of, row_text, Rowed, Shows, sh
 use crate::calls::play_at;
 use crate::{Run, line_of};
 
+// Kept: what may not change, here and below: text and place are two, since the clauses of `put_row` and `show_at` speak of each alone.
 /// Puts a row of numbers at a place and gives the next; where there are not 21 bytes a number, nothing changes and the place stays.
 pub fn put_row(text: &mut [u8], at: usize, row: &[u64]) -> usize
     ensures { Rowed text.old at row.now result text.new }
 {
+    // Kept: what may not change: `put_row` promises that a text too short for the row stays, and the place with it (`Rowed`).
     let most = text.len() / 21;
     if most < row.len() {
         return at;
@@ -67,6 +69,7 @@ pub fn show_at(run: Run, room: &mut [u64], bytes: &[u8], at: usize, text: &mut [
 pub fn show_all(mut run: Run, room: &mut [u64], bytes: &[u8], text: &mut [u8]) -> Run
     ensures { Shows (shown bytes.now (length bytes.now / 256) (record { run = run; room = room.old; text = text.old })) result room.new text.new }
 {
+    // Kept: what may not change: no chunks, since `show_at` is public and promises of all the bytes and a place.
     for i in 0..bytes.len() / 256 {
         run = show_at(run, room, bytes, 256 * i, text);
     }

@@ -7,7 +7,7 @@ ghost use Rattle.reader.specs.Steps.{after_at, step_at, started, moved_on};
 
 use trace::{Next, Record, next_record, record_at};
 
-// Kept: no slice alone, since 01 pins "a reader steps through a lent trace" as a struct that holds the lent bytes and a place.
+// Kept: a rule of the project: no slice alone, since 01 pins "A reader steps through a lent trace" as a struct that holds the lent bytes and a place.
 #[derive(Clone, Copy)]
 pub struct Reader<'a> {
     pub bytes: &'a [u8],
@@ -15,6 +15,7 @@ pub struct Reader<'a> {
 }
 
 /// What a reader finds at its place: what stands there, the numbers of a whole record (else all zero), and the place after it.
+// Kept: what may not change: `next` and `read_at` promise all three always (`step_at`): numbers all zero where no whole record is, and a place after.
 #[derive(Clone, Copy, Debug, PartialEq, Eq)]
 pub struct Step {
     pub found: Next,

@@ -11,6 +11,7 @@ use window::{SLOTS, Window};
 
 impl Replica {
     // A batch is offered to the leader: it takes the slot at the log end.
+    // Kept: a rule of the project, here and below: 01 wants "action records in a lent buffer of numbers", and each call is lent that room.
     pub fn offer(self, room: &mut [u64], batch: Batch) -> Handled
         ensures { Told (step self (length room.old) (call_offer batch)) (seen result) room.old room.new }
     {
@@ -26,6 +27,7 @@ impl Replica {
         }
         let old = self.window;
         let len = old.len;
+        // Kept: what may not change: `offer` promises 5 of a full window (`offer_step`).
         if SLOTS <= len {
             return self.refused(Refusal::PastWindow);
         }

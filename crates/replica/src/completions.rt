@@ -14,9 +14,10 @@ use actions::{Action, Notice, put_action};
 use decide::Scalars;
 use slots::{ACCEPTING, COMMITTED};
 
-// Kept: each demand of a private function is one record already (`DoneFits`, `PassFits` ..); room and place stay two, "action records in a lent buffer of
-// numbers" (01).
+// Kept: what may not change, here and in the other files: theorems of specs/ speak of the records that private functions demand (`own_fits` of
+// `DoneFits`, `prepare_told` of `PrepareFits` ..), so those keep the fields that more of them have (`3456 ≤ length room`, `within`, `sum`).
 // The CommitNotice, at the room's n-th place, where commit_bar moved. The place of the next action.
+// Kept: a rule of the project, here and below: a room and a place, since 01 wants "action records in a lent buffer of numbers", lent to each call.
 fn put_notice(room: &mut [u64], n: usize, still: bool, sc: Scalars, bar: u64, end: u64) -> usize
     requires { TwoFit n room.old }
     ensures { Wrote (pick still [] (notice_acts sc bar end)) n room.old result room.new }

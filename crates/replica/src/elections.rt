@@ -16,6 +16,7 @@ use window::{SLOTS, Summary, Window};
 
 impl Replica {
     // A timeout of the timer for `source`.
+    // Kept: a rule of the project, here and below: 01 wants "action records in a lent buffer of numbers", and each call is lent that room.
     pub fn timeout(self, room: &mut [u64], source: u64) -> Handled
         ensures { Told (step self (length room.old) (call_timeout source)) (seen result) room.old room.new }
     {
@@ -44,6 +45,7 @@ impl Replica {
             return self.refused(Refusal::NoStepUp);
         }
         let open = (trigger - sc.start) as usize;
+        // Kept: what may not change, here and below: a slot past the window is promised 5 (`step_up`, `commit_notice_step`), since the window is fixed.
         if SLOTS <= open {
             return self.refused(Refusal::PastWindow);
         }

@@ -97,7 +97,7 @@ impl Replica {
     pub(crate) fn test_ready(self, room: usize) -> Result<(), Refusal>
         ensures { answer_number result ≡ ready_answer self room }
     {
-        // Kept: the numbers of a record are tested (`ready_answer` says 1 of every other), since a host may write any, and a narrower type asks more of it.
+        // Kept: what may not change: `test_ready` promises 1 of each record that is not fit (`ready_answer`), and a host may write any number into one.
         if room < ROOM {
             return Err(Refusal::Unready);
         }
@@ -117,6 +117,7 @@ impl Replica {
             return Err(Refusal::Unready);
         }
         let first = sc.start + seen.first as u64;
+        // Kept: what may not change: theorems of specs/ speak of each number of the summary alone (`unsummed_first`, `unsummed_accepting`), so two tests.
         if self.summary.first != first {
             return Err(Refusal::WrongSummary);
         }
@@ -169,7 +170,7 @@ impl Replica {
         }
     }
 
-    // Ignored, or done with no actions.
+    // Ignored as the source ignores it, or done with no actions.
     pub(crate) fn ignored(self) -> Handled
         ensures { result ≡ record { outcome = Ok 0; replica = self } }
     {

@@ -62,7 +62,7 @@ pub enum Refusal {
 }
 
 // What a call hands back: how many actions the room has, or why it is refused; and the replica after it.
-// Kept: the replica stands beside the outcome, and the whole is no Result: "each call takes the replica by value and hands it back with its answer" (01).
+// Kept: a rule of the project: no Result of both, since 01 wants "each call takes the replica by value and hands it back with its answer", refused too.
 #[derive(Clone, Copy)]
 pub struct Handled {
     pub outcome: Result<usize, Refusal>,
@@ -70,7 +70,7 @@ pub struct Handled {
 }
 
 // A new replica, or that its numbers are outside 01's (10).
-// Kept: the replica stands beside the outcome: "A refused new replica is the all-zero record, which is unfit" (01), which `new_replica` promises.
+// Kept: what may not change: no Result of both, since `Replica::new` promises a record when refused too, the all-zero one (`new_replica`).
 #[derive(Clone, Copy)]
 pub struct Made {
     pub outcome: Result<(), Refusal>,

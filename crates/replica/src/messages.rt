@@ -14,6 +14,7 @@ use slots::{ACCEPTING, ReplicaBook};
 use window::{SLOTS, Window, larger_of};
 
 // check_leader: a leader that hears a larger ballot first reports that it is none. The place of the next action.
+// Kept: a rule of the project, here and below: 01 wants "action records in a lent buffer of numbers", and each call is lent that room.
 fn put_down(room: &mut [u64], sc: Scalars, ballot: u64) -> usize
     requires { 3456 ≤ length room.old }
     ensures { WroteDown sc ballot room.old result room.new }
@@ -40,6 +41,7 @@ impl Replica {
         if ballot < sc.bal_max_seen {
             return self.ignored();
         }
+        // Kept: what may not change, here and below: a slot past the window is promised 5 (`prepare_step`, `accept_step`).
         if sc.start + SLOTS as u64 <= trigger {
             return self.refused(Refusal::PastWindow);
         }

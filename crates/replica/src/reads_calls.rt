@@ -16,6 +16,7 @@ use tally::open_reads::reply_to;
 use tally::{MergeError, Read, Replied, Tally};
 
 // What a closed read says of the key at place i, as the room's i-th action.
+// Kept: a rule of the project, here and below: 01 wants "action records in a lent buffer of numbers", and each call is lent that room.
 fn put_answer(room: &mut [u64], leader: u64, read: Read, i: usize)
     requires { AnswerFits i room.old }
     ensures { room.new ≡ write_at room.old i (answer_act leader read i ∷ []) }
@@ -35,7 +36,7 @@ fn put_answers(room: &mut [u64], leader: u64, read: Read, answers: usize)
     requires { AnswersFit answers room.old }
     ensures { Answers leader read answers room.old room.new }
 {
-    // Kept: a range, since the place is what the action says, and where it stands in the room.
+    // Kept: the new form is no plainer: the number i is what the action says, and where it stands in the room, so a range and no iterator over keys.
     for i in 0..answers {
         put_answer(room, leader, read, i);
     }
@@ -50,7 +51,10 @@ impl Replica {
             return self.refused(refusal);
         }
         match self.reads.open_read(id, count, keys) {
-            Ok(()) => self.ignored(),
+            Ok(()) => Handled {
+                outcome: Ok(0),
+                replica: self,
+            },
             Err(error) => self.refused(Refusal::from(error)),
         }
     }
@@ -98,6 +102,7 @@ impl Replica {
         if let Err(refusal) = self.from_member(room.len(), peer) {
             return self.refused(refusal);
         }
+        // Kept: what may not change: `read_reply` promises 10 of a list over 8 (`read_reply_step`), and a host may write any number there.
         if KEYS < reply.count {
             return self.refused(Refusal::Outside);
         }

@@ -24,6 +24,7 @@ fn is_elsewhere(sc: Scalars, m: Reply) -> bool
 
 impl Replica {
     // A PrepareReply from a peer.
+    // Kept: a rule of the project, here and below: 01 wants "action records in a lent buffer of numbers", and each call is lent that room.
     pub fn prepare_reply(self, room: &mut [u64], peer: u64, m: Reply) -> Handled
         ensures { Told (step self (length room.old) (call_prepare_reply peer m)) (seen result) room.old room.new }
     {
@@ -66,6 +67,7 @@ impl Replica {
         if !t.leader.present {
             return self.ignored();
         }
+        // Kept: what may not change: a slot past the window is promised 5, after the tests above it (`reply_on` of specs/Messages).
         let end = sc.start + SLOTS as u64;
         if end <= m.slot {
             return self.refused(Refusal::PastWindow);
@@ -101,6 +103,7 @@ impl Replica {
         };
         let batch = g.slot.batch;
         let keys = self.keys;
+        // Kept: what may not change: `voted_on` promises 7 where the table has too few free keys, and fixed memory has 256.
         if keys.too_many(g.noted, batch) {
             return self.refused(Refusal::KeysFull);
         }

@@ -14,6 +14,7 @@ use window::{Summary, Window};
 
 impl Replica {
     // What was decided for the slot at place i of a window.
+    // Kept: a rule of the project, here and below: 01 wants "action records in a lent buffer of numbers", and each call is lent that room.
     pub(crate) fn settle(
         mut self,
         room: &mut [u64],
@@ -31,6 +32,7 @@ impl Replica {
         };
         let s = d.slot;
         let old = self.keys;
+        // Kept: what may not change: `noting` promises 7 where the table has too few free keys, and fixed memory has 256.
         if old.too_many(d.noted, s.batch) {
             return self.refused(Refusal::KeysFull);
         }

@@ -8,10 +8,10 @@ ghost use Rattle.slots.specs.Slots.{no_vote, null_slot, new_book, sourced};
 ghost use Rattle.slots.specs.Slots.{with_state, with_batch, with_vote, with_leader, with_replica, with_external, with_offset};
 ghost use Rattle.slots.specs.Slots.{appended_slot, offered_slot, fit_slot};
 
-use batch::{Batch, empty_batch};
+use batch::{Batch, KEYS, empty_batch};
 
 // A status is a number that is compared as the source compares statuses.
-// Kept: a number, since a host may write any into the public `Slot.status`, and what takes a slot, a window or a replica says what it does with it.
+// Kept: a number: `Slot::redone` takes a slot with any, as a host may write the public field, and `Window::stop` any beside the slots; what may not change.
 pub const NULL: u64 = 0;
 
 pub const PREPARING: u64 = 1;
@@ -30,8 +30,7 @@ pub struct Vote {
 }
 
 // What a leader keeps of a slot.
-// Kept: `present` is no Option, here and below, since the numbers beside it mean something where it is false too: `sourced` and the laws read them, and a
-// host may write them.
+// Kept: what may not change: `present` is no Option: `Slot::noted`, `Slot::lacks_note` and `Slot::is_fit` use the numbers beside it where it is false too.
 #[derive(Clone, Copy, Debug, PartialEq, Eq)]
 pub struct LeaderBook {
     pub present: bool,
@@ -44,6 +43,7 @@ pub struct LeaderBook {
 }
 
 // What a follower keeps of a slot: whom it answers.
+// Kept: what may not change: `Slot::prepared` takes any book and hands it back whole, with numbers also where `present` is false: a host may write both.
 #[derive(Clone, Copy, Debug, PartialEq, Eq)]
 pub struct ReplicaBook {
     pub present: bool,
@@ -198,23 +198,16 @@ impl Slot {
 // The record's test.
 impl Slot {
     // Whether its counts are within their tables and its member sets within a group.
+    // Kept: these tests: what may not change: a host may write any count and any set into the public fields, and `fit_slot` says which are unfit.
+    #[tactic(auto, unfolding(crate::specs::Slots::fit_slot))]
     pub fn is_fit(self, group: u64) -> bool
         ensures { result ≡ fit_slot group self }
     {
-        // Kept: one `&&` chain of the five was tried, and its proof didn't close: each `&&` joins two ways, and the facts of a test are lost at the next.
-        if 8 < self.batch.count {
-            return false;
-        }
-        if 8 < self.vote.batch.count {
-            return false;
-        }
-        if !members::within(self.leader.prepare_acks, group) {
-            return false;
-        }
-        if !members::within(self.leader.accept_acks, group) {
-            return false;
-        }
-        members::within(self.leader.notes, group)
+        self.batch.count <= KEYS
+            && self.vote.batch.count <= KEYS
+            && members::within(self.leader.prepare_acks, group)
+            && members::within(self.leader.accept_acks, group)
+            && members::within(self.leader.notes, group)
     }
 }
 

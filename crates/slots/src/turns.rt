@@ -8,6 +8,7 @@ use batch::Batch;
 
 impl Slot {
     // The status that Prepare or Accept gives; a strict replica's committed slot keeps its own.
+    // Kept: here and below: a status is a number, see `slots::NULL`.
     fn put_back(self, strict: bool, status: u64) -> u64
         ensures { result ≡ put_back strict status self }
     {

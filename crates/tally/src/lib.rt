@@ -6,6 +6,7 @@ pub mod listed;
 pub mod merge;
 pub mod open_reads;
 
+use batch::KEYS;
 use std::fmt;
 
 // How many reads can be open at a time.
@@ -50,7 +51,7 @@ pub struct KeyBest {
 #[derive(Clone, Copy, Debug)]
 pub struct Tally {
     pub count: usize,
-    pub bests: [KeyBest; 8],
+    pub bests: [KeyBest; KEYS],
 }
 
 // A key of which held and reply have different values at one slot.
@@ -79,6 +80,7 @@ pub struct Merged {
 // What a closed read answers for one key: 01's tag, and the value, or the leader to retry at.
 #[derive(Clone, Copy, Debug, PartialEq, Eq)]
 pub struct ReadAnswer {
+    // Kept: a number, since 01 states the answer so and it goes into the numbers of an action as it is (`answer_of`, `numbers_of`).
     pub tag: u64,
     pub value: u64,
 }
@@ -88,7 +90,7 @@ pub struct ReadAnswer {
 pub struct Read {
     pub id: u64,
     pub acks: u64,
-    pub keys: [u64; 8],
+    pub keys: [u64; KEYS],
     pub tally: Tally,
 }
 

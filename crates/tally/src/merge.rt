@@ -3,6 +3,7 @@ ghost use Rattle.std.specs.Prelude.{◌≡◌, ℕ};
 ghost use Rattle.tally.specs.Merge as merging;
 
 use crate::{Best, Conflict, Held, MergeError, Merged, ReadAnswer, Tally};
+use batch::KEYS;
 
 // A reply with a slot and a value, over what is held.
 fn merge_value(held: Best, reply: Held) -> Result<Best, Conflict>
@@ -67,21 +68,23 @@ impl Tally {
 }
 
 // A reply over what is held, key by key up to the first conflict.
+// Kept: the tests of a count past eight, since the fields are public and `merge` speaks of every count.
 #[tactic(auto, unfolding(crate::specs::Merge::merge))]
 pub fn merge(mut held: Tally, reply: Tally) -> Merged
     ensures { merging.numbered result ≡ merging.merge held reply }
 {
     let n = held.count;
-    if 8 < n {
+    if KEYS < n {
         return held.refused(MergeError::HeldTooLong);
     }
-    if 8 < reply.count {
+    if KEYS < reply.count {
         return held.refused(MergeError::ReplyTooLong);
     }
     if n != reply.count {
         return held.refused(MergeError::UnequalLengths);
     }
-    // Kept: by index, since `best_at`, by which the promise and the laws speak, is of a place in both tallies.
+    // Kept: by index. `for (ours, theirs) in held.bests[..n].iter_mut().zip(&reply.bests[..n])` was tried; the proof did not close: `best_at` and `Merging`,
+    // by which the laws and each turn speak, are of a place in the whole tally, which the iterator has lent.
     for i in 0..n {
         let Ok(best) = merge_key(held.bests[i].best, reply.bests[i].best) else {
             return held.refused(MergeError::Conflict);

@@ -6,6 +6,7 @@ ghost use Rattle.tally.specs.Open.{open_number, numbered_open, numbered_reply};
 
 use crate::merge::merge;
 use crate::{Best, KeyBest, Merged, OpenError, READS, Read, Reads, Replied, Tally};
+use batch::KEYS;
 
 // A tally of so many keys with nothing known of any.
 pub fn nothing_known(count: usize) -> Tally
@@ -16,12 +17,12 @@ pub fn nothing_known(count: usize) -> Tally
     };
     Tally {
         count,
-        bests: [nothing; 8],
+        bests: [nothing; KEYS],
     }
 }
 
 // A read as it opens.
-fn new_read(id: u64, count: usize, keys: [u64; 8]) -> Read
+fn new_read(id: u64, count: usize, keys: [u64; KEYS]) -> Read
     ensures { result ≡ new_read id count keys }
 {
     Read {
@@ -38,7 +39,7 @@ pub fn no_reads() -> Reads
 {
     Reads {
         count: 0,
-        reads: [new_read(0, 0, [0; 8]); READS],
+        reads: [new_read(0, 0, [0; KEYS]); READS],
     }
 }
 
@@ -56,6 +57,9 @@ impl OpenError {
 
 impl Reads {
     // The place of the open read with this id, or the count.
+    // Kept: a number and no Option, since that is what `find_read` promises any caller: the count where no read has the id.
+    // Kept: here and below the tests of a count past the room, since the fields are public and the promises speak of every count (`find_read`, `open_read`,
+    // `close_read`, `put_read`, `fit_reads`).
     pub fn find(self, id: u64) -> usize
         ensures { result ≡ find_read self id }
     {
@@ -71,11 +75,11 @@ impl Reads {
 
     // One read more, at the end of the table; a read that is refused leaves the table as it was.
     #[tactic(auto, unfolding(crate::specs::Open::open_read))]
-    pub fn open_read(&mut self, id: u64, count: usize, keys: [u64; 8]) -> Result<(), OpenError>
+    pub fn open_read(&mut self, id: u64, count: usize, keys: [u64; KEYS]) -> Result<(), OpenError>
         ensures { numbered_open result self.new ≡ open_read self.old id count keys }
     {
         let n = self.count;
-        if count == 0 || 8 < count || self.find(id) < n {
+        if count == 0 || KEYS < count || self.find(id) < n {
             return Err(OpenError::Outside);
         }
         if READS <= n {
@@ -129,7 +133,7 @@ impl Read {
     fn is_fit(self, group: u64) -> bool
         ensures { result ≡ fit_read group self }
     {
-        self.tally.count <= 8 && members::within(self.acks, group)
+        self.tally.count <= KEYS && members::within(self.acks, group)
     }
 
     fn with_tally(self, tally: Tally) -> Read

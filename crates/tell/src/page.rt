@@ -18,6 +18,7 @@ impl<'a> Page<'a> {
     }
 
     // Each with a blank before it.
+    // Kept: the text is lent bytes of a fixed size, without a heap, and what `words::put_number` and `put_byte` leave in them, here and below, is proved.
     pub(crate) fn numbers(&mut self, numbers: &[u64]) {
         for n in numbers {
             self.byte(b' ');

@@ -9,6 +9,7 @@ use crate::{Kind, Record};
 pub fn sum_is_right(bytes: &[u8], at: usize) -> bool
     ensures { result ≡ sum_right bytes.now at }
 {
+    // Kept: what may not change, here and below: `sum_is_right` and `write_sum` promise what they do where there are not 256 bytes from the place on.
     if bytes.len() < 256 {
         return false;
     }
@@ -64,10 +65,5 @@ fn bad_tag(entries: &[u64; 24], count: usize) -> bool
     requires { count ≤ 8 }
     ensures { result ≡ bad_tag count entries.now }
 {
-    for i in 0..count {
-        if 2 < entries[3 * i] {
-            return true;
-        }
-    }
-    false
+    (0..count).any(|i| 2 < entries[3 * i])
 }

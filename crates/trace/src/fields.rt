@@ -8,6 +8,7 @@ use crate::Record;
 pub fn record_at(bytes: &[u8], at: usize) -> Record
     ensures { result ≡ record_at bytes.now at }
 {
+    // Kept: what may not change: `record_at` promises the all-zero record where there are not 256 bytes from the place on.
     if bytes.len() < 256 {
         return no_record();
     }
@@ -41,11 +42,7 @@ fn numbers(bytes: &[u8], at: usize) -> [u64; 24]
     requires { at + 192 ≤ length bytes.now }
     ensures { result ≡ numbers_at bytes.now at 24 }
 {
-    let mut read = [0u64; 24];
-    for i in 0..24 {
-        read[i] = words::number_at(bytes, at + 8 * i);
-    }
-    read
+    std::array::from_fn(|i| words::number_at(bytes, at + 8 * i))
 }
 
 fn no_record() -> Record

@@ -14,7 +14,7 @@ pub use kind::{Kind, UnknownKind};
 /// A record's numbers. An entry is three of `entries`: key, 0, 0, or tag, slot, value.
 #[derive(Clone, Copy, Debug, PartialEq, Eq)]
 pub struct Record {
-    // Kept: `is_malformed` takes a record of any kind, and says which are malformed.
+    // Kept: what may not change, `sub` too: `is_malformed` takes any number here, and promises which are malformed (13).
     pub kind: u64,
     pub peer: u64,
     pub sub: u64,
@@ -26,6 +26,7 @@ pub struct Record {
     pub voted: u64,
     pub batch: u64,
     pub bar: u64,
+    // Kept: a rule of the project: memory is fixed, and 01 has "eight entries of three numbers" in each record, of which `count` are used.
     pub entries: [u64; 24],
 }
 

@@ -101,7 +101,7 @@ impl Window {
             .count() as u64
     }
 
-    // Kept: one loop for three things, since the slots are walked once (docs/DECISIONS.md, "The test for 14").
+    // Kept: one loop for three things, as the slots are walked once (docs/DECISIONS.md, "The test for 14"); by index: `next_open` and `from` speak of places.
     // One pass: the place of the first open slot, and how many from a place on are Accepting; none where a slot in use is unfit, or more than 64 are in use.
     pub fn survey(self, group: u64, from: usize) -> Option<Survey>
         ensures { survey_of result ≡ surveyed group from self }

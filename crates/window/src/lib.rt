@@ -22,7 +22,7 @@ pub struct Window {
 }
 
 // 02, Wish 1: the first slot not committed, by its number (the log end if there is none), and how many slots from commit_bar on are Accepting.
-#[derive(Clone, Copy)]
+#[derive(Clone, Copy, Debug, PartialEq, Eq)]
 pub struct Summary {
     pub first: u64,
     pub accepting: u64,

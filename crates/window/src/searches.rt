@@ -21,7 +21,7 @@ pub fn no_slots() -> Window
 }
 
 // The larger of two places.
-// Kept: a public name for `max`, which docs/PROMISES.md lists.
+// Kept: what may not change: a public name, promised by its row in docs/PROMISES.md, for a host to call; it is `max`, whose promise is the library's.
 pub fn larger_of(a: usize, b: usize) -> usize
     ensures { result ≡ larger a b }
 {

@@ -80,6 +80,7 @@ impl Sweep for Redoing {
 
     fn turn(self, s: Slot, room: &mut [u64], n: usize, slot: u64) -> Turned {
         let t = s.redone(self.ballot, self.book);
+        // Kept: here and below: a status is a number, see `slots::NULL`.
         if COMMITTED <= s.status {
             return Turned { next: n, slot: t };
         }
@@ -198,6 +199,7 @@ pub fn put_promises(
         return k;
     }
     let mut n = k;
+    // Kept: n beside i: the new form is no plainer: `k + (i - from)` in the loop and `k + (to - from)` after it would say one place twice.
     for i in from..to {
         put_promise(room, n, start + i as u64, ballot);
         n += 1;
@@ -226,6 +228,7 @@ impl Window {
             };
         }
         let mut n = k;
+        // Kept: by index: a proof knows nothing of what an adapter of `iter_mut`, as `enumerate`, hands out; `iter_mut` alone would count i by hand.
         for i in from..to {
             let p = sweep.turn(self.slots[i], room, n, start + i as u64);
             self.slots[i] = p.slot;
@@ -239,6 +242,7 @@ impl Window {
 
     // Kept: five public names for one sweep, since a turn counts on room for two actions and nothing that a host can call has a demand (`Sweep::turn`,
     // `TwoFit`): the trait stays inside the crate.
+    // Prepare: the slots at the places from..to become Preparing, with a PrepareBal entry for each; `next` is the place after the last entry.
     pub fn prepare_range(
         self,
         room: &mut [u64],
@@ -260,6 +264,7 @@ impl Window {
         self.sweep(preparing, room, k, from, to, start)
     }
 
+    // Step-up: the same for the slots of a range below Committed; a Committed one becomes external with no entry, an Executed one stays; `next` as above.
     pub fn redo_range(
         self,
         room: &mut [u64],
@@ -275,6 +280,7 @@ impl Window {
         self.sweep(Redoing { ballot, book }, room, k, from, to, start)
     }
 
+    // Quorum: the Preparing slots of a range enter Accept, with an AcceptData entry and an Accept message for each, two places; `next` as above.
     pub fn enter_range(
         self,
         room: &mut [u64],
@@ -290,6 +296,7 @@ impl Window {
         self.sweep(Entering { strict, ballot }, room, k, from, to, start)
     }
 
+    // CommitNotice: the slots of a range below Committed become so, with a CommitSlot entry for each at its own ballot; `next` as above.
     pub fn mark_range(
         self,
         room: &mut [u64],
@@ -303,6 +310,7 @@ impl Window {
         self.sweep(Marking, room, k, from, to, start)
     }
 
+    // commit_bar passes a range: a slot of an empty batch becomes Executed, any other that is Committed gets an Execute order; `next` as above.
     pub fn pass_range(
         self,
         room: &mut [u64],

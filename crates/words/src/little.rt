@@ -4,10 +4,13 @@ ghost use Rattle.words.specs.Little.{number_at, part, bytes_of};
 ghost use Rattle.words.specs.Put.{put};
 
 // The number of the four bytes from `at` on; 0 where there are not so many.
+// Kept: here and below the bytes and the place stand beside each other, since the bytes are lent (fixed memory) and the promises speak of any two, a place past
+// the end too (`number_at`, `put`).
 #[tactic(auto, using(crate::specs::LittleLaws::number_past))]
 pub fn word_at(bytes: &[u8], at: usize) -> u32
     ensures { result ≡ number_at 4 bytes.now at }
 {
+    // Kept: here and below the test stands as it is: a helper over it is no plainer, since it would be one line less here and a function with a promise more.
     if bytes.len() < 4 || bytes.len() - 4 < at {
         return 0;
     }

@@ -7,6 +7,7 @@ ghost use Rattle.words.specs.Sums.{sum_of};
 use crate::little::word;
 
 // The sum of n words from `at` on but for the one numbered `out`, wrapping at 2^32; 0 where there are not so many.
+// Kept: the bytes and the place beside each other, since the bytes are lent (fixed memory) and `sum_of` speaks of any two, a place past the end too.
 #[tactic(auto, using(crate::specs::SumLaws::sum_past))]
 pub fn sum_at(bytes: &[u8], at: usize, n: usize, out: usize) -> u32
     ensures { result ≡ sum_of bytes.now at n out }

@@ -4,6 +4,8 @@ ghost use Rattle.words.specs.Put.{put_at, Written};
 ghost use Rattle.words.specs.Decimal.{decimal, digits, Wide};
 
 // Puts a number's digits at a place and gives the next; where they do not fit, nothing changes and the place stays.
+// Kept: here and below the text and the place stand beside each other, since the room is lent (fixed memory) and `Written` speaks of any two, a place past the
+// end too.
 #[tactic(auto, using(crate::specs::DecimalLaws::number_left, crate::specs::DecimalLaws::number_written))]
 pub fn put_number(text: &mut [u8], at: usize, n: u64) -> usize
     ensures { Written text.old at (decimal n) result text.new }

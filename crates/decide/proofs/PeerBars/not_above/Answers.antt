@@ -1,27 +1,34 @@
-use mathlib.Core.Path.{◌≡◌}
-use native.Mathlib.Omega.{arith}
+use mathlib.Core.Path.{◌≡◌, refl, ◌∙◌}
+use mathlib.Core.Bool.{Bool, true, false}
+use Rattle.std.specs.Prelude.{ℕ, length, filter}
+use Rattle.std.specs.List.{range_with_len}
+use Rattle.std.proofs.Common.{cond, rules}
+use Rattle.std.proofs.lemmas.Iterator.{YieldsList-from_range}
+use Rattle.std.proofs.lemmas.Iterator.Consumers.{count_from_yields_List, YieldsList-from_filter}
+use Rattle.std.proofs.lemmas.List.Sums.{length-filter}
+use Rattle.base.specs.Pick.{one, tests}
+use Rattle.members.specs.Sets.{count}
 use Rattle.decide.specs.Bars.{not_above}
-use Rattle.decide.specs.Turns.{entry_not_above, count_start, count_turn, one_small}
+use Rattle.decide.specs.Turns.{entry_not_above}
 use Rattle.decide.proofs.PeerBars.not_above.Goals as goal
 
-pub loop-m-init : goal.loop-m-init
-loop-m-init c = let a = c.args in (count_start (entry_not_above a.sc a.self a.bar), omega arith)
+-- the library's 1 or 0 of a test
+cond_one : (t : Bool) → cond t 1 0 ≡ one t
+cond_one true = refl
+cond_one false = refl
 
-pub overflow_add-n : goal.overflow_add-n
-overflow_add-n c =
-    let a = c.args in
-    omega (arith, one_small (entry_not_above a.sc a.self a.bar c.loop-m.m) _ c.one_not_above-n.ensures)
-
-pub loop-m-preserved : goal.loop-m-preserved
-loop-m-preserved c =
-    let l = c.loop-m in
-    let a = c.args in (
-      count_turn (entry_not_above a.sc a.self a.bar) _ _ l.m l.invariant.0 c.one_not_above-n.ensures,
-      omega (arith, one_small (entry_not_above a.sc a.self a.bar l.m) _ c.one_not_above-n.ensures),
-    )
+-- the members counted in a row
+listed : (f : ℕ → Bool) → length (filter f (range_with_len 0 9)) ≡ count 9 f
+unfolding count
+listed f =
+    length-filter f (range_with_len 0 9)
+    ∙ rw (cond_one (f 0), cond_one (f 1), cond_one (f 2), cond_one (f 3), cond_one (f 4), cond_one (f 5), cond_one (f 6), cond_one (f 7), cond_one (f 8))
 
 pub returns : goal.returns
 unfolding not_above
 returns c =
-    let h : c.loop-m.m ≡ 9 = omega arith in
-    rw h at c.loop-m.invariant.0
+    let a = c.args in
+    let f : ℕ → Bool = entry_not_above a.sc a.self a.bar in
+    count_from_yields_List _ c.count.result c.count.ensures.ran
+    (YieldsList-from_filter _ f (YieldsList-from_range 0 9 9 (cc) refl) c.filter.ensures.closure (λ x b q k. search (rules, tests)))
+    ∙ listed f

@@ -47,18 +47,6 @@ bounds-w-at c =
     let facts = ready_holds a.self (length a.room.now) c.in_default.ensures in
     let f = facts in omega (arith, f.low, f.within)
 
-pub offset_bounds-w-at-2 : goal.offset_bounds-w-at-2
-offset_bounds-w-at-2 c =
-    let a = c.args in
-    let facts = ready_holds a.self (length a.room.now) c.in_default.ensures in
-    let f = facts in omega (arith, f.low, f.within)
-
-pub bounds-w-at-2 : goal.bounds-w-at-2
-bounds-w-at-2 c =
-    let a = c.args in
-    let facts = ready_holds a.self (length a.room.now) c.in_default.ensures in
-    let f = facts in omega (arith, f.low, f.within)
-
 pub moved_exec-moved-requires : goal.moved_exec-moved-requires
 moved_exec-moved-requires c =
     let a = c.args in

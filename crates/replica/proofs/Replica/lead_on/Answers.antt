@@ -3,14 +3,6 @@ use Rattle.window.specs.RangeLaws.{swept_in}
 use Rattle.replica.specs.ElectionLaws.{lead_told}
 use Rattle.replica.proofs.Replica.lead_on.Goals as goal
 
-pub overflow_add-count : goal.overflow_add-count
-overflow_add-count c =
-    omega (arith, c.redo_range-p.ensures.few, c.requires)
-
-pub shape_of-room : goal.shape_of-room
-shape_of-room c =
-    omega (arith, c.put_action-3.auto.room, c.redo_range-p.auto.room, c.put_action-2.auto.room, c.put_action.auto.room)
-
 pub returns : goal.returns
 returns c =
     let g = c.args in

@@ -7,10 +7,6 @@ pub overflow_sub-left : goal.overflow_sub-left
 overflow_sub-left c =
     mark_few c.args.self c.args.w c.args.from c.args.stop c.requires (swept_in c.mark_range-p.ensures c.requires.ranged)
 
-pub overflow_sub-at : goal.overflow_sub-at
-overflow_sub-at c =
-    mark_first c.args.self c.args.w c.args.from c.args.stop c.requires
-
 pub overflow_add-first : goal.overflow_add-first
 overflow_add-first c =
     omega (arith, c.requires.ranged.low, mark_found c.args.self c.args.w c.args.from c.args.stop c.requires (swept_in c.mark_range-p.ensures c.requires.ranged) c.stop-open.ensures)

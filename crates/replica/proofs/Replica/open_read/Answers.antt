@@ -1,9 +1,8 @@
 use lib.ListN.{length}
-use mathlib.Core.Path.{sym, ap, ◌∙◌}
-use Rattle.replica.specs.Record.{kept}
+use mathlib.Core.Path.{refl}
 use Rattle.replica.specs.SeenLaws.{refused_some}
 use Rattle.replica.specs.AdmitLaws.{ready_open, ready_holds}
-use Rattle.replica.specs.ActingLaws.{refused_told, ignored_told}
+use Rattle.replica.specs.ActingLaws.{refused_told, keep}
 use Rattle.replica.specs.ReadCallLaws.{open_unready, open_ready}
 use Rattle.replica.proofs.Replica.open_read.Goals as goal
 
@@ -15,7 +14,7 @@ returns-in-Err c =
 pub returns-in-Ok : goal.returns-in-Ok
 returns-in-Ok c =
     let a = c.args in
-    ignored_told _ c.ignored.ensures
+    keep 0 _ refl
     (open_ready a.self _ a.id a.count a.keys _ (ready_open a.self (length a.room.now) c.in_default.ensures) c.in-Ok.ensures)
     (ready_holds a.self (length a.room.now) c.in_default.ensures).sum
 

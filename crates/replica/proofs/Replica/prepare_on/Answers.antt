@@ -34,10 +34,6 @@ overflow_add-endprep c =
     let t = top (goal.at.overflow_add-endprep c).After-larger_of-top in
     omega arith
 
-pub overflow_sub-bar : goal.overflow_sub-bar
-overflow_sub-bar c =
-    omega (arith, c.requires.commit)
-
 pub returns : goal.returns
 returns c =
     let a = c.args in

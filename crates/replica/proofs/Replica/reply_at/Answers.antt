@@ -17,18 +17,6 @@ weighs c =
     Weighs-read a.self a.peer a.m a.i a.j (put_slot c.append-w.result a.i c.noted-s.result) _ _ c.requires (omega (arith, c.well_formed, c.requires)) c.new_book-book.ensures
     c.append-w.ensures c.strict-strict.ensures c.noted-s.ensures refl c.with_fallen-fallen.ensures c.counts-counts.ensures c.in-Ok.ensures
 
-pub offset_bounds-w-i-2 : goal.offset_bounds-w-i-2
-offset_bounds-w-i-2 c = omega (arith, c.requires)
-
-pub bounds-w-i-2 : goal.bounds-w-i-2
-bounds-w-i-2 c = omega (arith, c.requires)
-
-pub offset_bounds-w-j : goal.offset_bounds-w-j
-offset_bounds-w-j c = omega (arith, c.requires)
-
-pub bounds-w-j : goal.bounds-w-j
-bounds-w-j c = omega (arith, c.requires)
-
 pub returns-in-Err : goal.returns-in-Err
 returns-in-Err c =
     let a = c.args in
@@ -43,27 +31,12 @@ returns-then-too_many c =
     refused_told _ a.self c.refused-then-too_many.ensures
     (reply_full a.self a.peer a.m a.i a.j _ _ _ known refl c.too_many.ensures c.if-too_many.true)
 
-pub offset_bounds-w-i-3 : goal.offset_bounds-w-i-3
-offset_bounds-w-i-3 c = omega (arith, c.requires)
-
-pub bounds-w-i-3 : goal.bounds-w-i-3
-bounds-w-i-3 c = omega (arith, c.requires)
-
-pub offset_bounds-w-j-2 : goal.offset_bounds-w-j-2
-offset_bounds-w-j-2 c = omega (arith, c.requires)
-
-pub bounds-w-j-2 : goal.bounds-w-j-2
-bounds-w-j-2 c = omega (arith, c.requires)
-
 pub returns-then-not-g : goal.returns-then-not-g
 returns-then-not-g c =
     let known = weighs (goal.at.returns-then-not-g c).In-Ok in
     let a = c.args in
     reply_still a.self a.peer a.m a.i a.j _ _ _ known c.requires refl c.too_many.ensures c.if-too_many.false c.put_promises-k.ensures
     (not-true c.in-Ok.g.enters c.if-not-g.true) c.with_bar-self.ensures c.note_if-self.ensures
-
-pub overflow_sub-bar : goal.overflow_sub-bar
-overflow_sub-bar c = omega (arith, c.requires.commit_low)
 
 pub overflow_add-accepting : goal.overflow_add-accepting
 overflow_add-accepting c =
@@ -74,10 +47,6 @@ overflow_add-accepting c =
       arith,
       more_few a.self a.peer a.m a.i a.j _ _ _ known _ c.requires whole c.count_at-more.ensures,
     )
-
-pub shape_of-room : goal.shape_of-room
-shape_of-room c =
-    omega (arith, c.enter_range-p.auto.room, c.put_promises-k.auto.room)
 
 pub returns : goal.returns
 returns c =

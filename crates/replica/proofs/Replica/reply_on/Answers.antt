@@ -48,21 +48,6 @@ returns-then-not-is_in_log c =
     let a = c.args in
     refused_told _ a.self c.refused-then-not-is_in_log.ensures (on_outside a.self a.peer a.m c.if-m-sc.false (led d) (own d) (refuted c.is_in_log.ensures (ap not c.if-not-is_in_log.true)))
 
-pub overflow_sub-j : goal.overflow_sub-j
-overflow_sub-j c =
-    let d = (goal.at.overflow_sub-j c).After-is_in_log in
-    (ranged d (ap not c.if-not-is_in_log.false)).from
-
-pub offset_bounds-w-j : goal.offset_bounds-w-j
-offset_bounds-w-j c =
-    let d = (goal.at.offset_bounds-w-j c).After-is_in_log in
-    let f = (ranged d (ap not c.if-not-is_in_log.false)) in omega (arith, c.requires)
-
-pub bounds-w-j : goal.bounds-w-j
-bounds-w-j c =
-    let d = (goal.at.bounds-w-j c).After-is_in_log in
-    let f = (ranged d (ap not c.if-not-is_in_log.false)) in omega (arith, c.requires)
-
 pub returns-then-not-t : goal.returns-then-not-t
 returns-then-not-t c =
     let d = (goal.at.returns-then-not-t c).After-is_in_log in
@@ -70,17 +55,11 @@ returns-then-not-t c =
     ignored_told a.self c.ignored-then-not-t.ensures (on_bookless a.self a.peer a.m c.if-m-sc.false (led d) (own d) (within d (ap not c.if-not-is_in_log.false)) (not-true _ c.if-not-t.true))
     c.requires.sum
 
-pub overflow_add-end : goal.overflow_add-end
-overflow_add-end c = omega (arith, c.requires)
-
 pub returns-then-end-m : goal.returns-then-end-m
 returns-then-end-m c =
     let d = (goal.at.returns-then-end-m c).After-is_in_log in
     let a = c.args in
     refused_told _ a.self c.refused-then-end-m.ensures (on_past a.self a.peer a.m c.if-m-sc.false (led d) (own d) (within d (ap not c.if-not-is_in_log.false)) (not-false _ c.if-not-t.false) c.if-end-m.true)
-
-pub overflow_sub-i : goal.overflow_sub-i
-overflow_sub-i c = omega (arith, c.requires)
 
 pub reply_at-requires : goal.reply_at-requires
 reply_at-requires c =

@@ -10,10 +10,6 @@ pub returns-then-trigger-sc : goal.returns-then-trigger-sc
 returns-then-trigger-sc c =
     refused_told _ c.args.self c.refused.ensures (step_below c.args.self _ c.requires c.args.ballot c.if-trigger-sc.true)
 
-pub overflow_sub-open : goal.overflow_sub-open
-overflow_sub-open c =
-    omega (arith, c.requires.exec_low)
-
 pub returns-then-open-ge-SLOTS : goal.returns-then-open-ge-SLOTS
 returns-then-open-ge-SLOTS c =
     refused_told _ c.args.self c.refused-then-open-ge-SLOTS.ensures (step_full c.args.self _ c.requires c.args.ballot c.if-trigger-sc.false c.if-open-ge-SLOTS.true)

@@ -6,7 +6,7 @@ use Rattle.tally.proofs.merge.merge.Goals as goal
 pub returns-in_default : goal.returns-in_default
 returns-in_default c =
     c.refused-in_default.ensures
-    ∙ merging_stop _ _ c.if-n-gt8.false c.if-reply-gt8.false c.if-n-reply.false c.loop-i.i _ c.loop-i.invariant _ (omega arith)
+    ∙ merging_stop _ _ c.if-n-gt-KEYS.false c.if-reply-gt-KEYS.false c.if-n-reply.false c.loop-i.i _ c.loop-i.invariant _ (omega arith)
     c.merge_key.ensures c.in_default.is
 
 pub loop-i-preserved : goal.loop-i-preserved
@@ -15,4 +15,4 @@ loop-i-preserved c =
 
 pub returns : goal.returns
 returns c =
-    merging_end _ _ c.if-n-gt8.false c.if-reply-gt8.false c.if-n-reply.false c.loop-i.i _ c.loop-i.invariant (omega arith)
+    merging_end _ _ c.if-n-gt-KEYS.false c.if-reply-gt-KEYS.false c.if-n-reply.false c.loop-i.i _ c.loop-i.invariant (omega arith)
