@@ -279,7 +279,8 @@ function type_of(s) {
 }
 
 # the name of an `impl` of a trait, as the prover has it, and the trait; nothing for another `impl`
-function trait_of(s,   params, name) {
+function trait_of(s,   params, name, whole, own_name) {
+  whole = s
   s = past_parameters(s)
   s = substr(s, 1, index(s, "{") - 1)
   if (s !~ /[ \n]for[ \n]/) return ""
@@ -288,6 +289,13 @@ function trait_of(s,   params, name) {
   sub(/<.*/, "", s)
   gsub(/[A-Za-z_0-9]+::/, "", s)
   gsub(/[^A-Za-z0-9_]/, "", s)
+  # one that has the type's own name keeps its crate's before it
+  own_name = type_of(whole)
+  sub(/::$/, "", own_name)
+  if (match(params, "[a-z_0-9]+::" own_name "([^A-Za-z0-9_]|$)")) {
+    params = substr(params, 1, RSTART - 1) toupper(substr(params, RSTART, 1)) substr(params, RSTART + 1)
+    sub("::" own_name, own_name, params)
+  }
   gsub(/[A-Za-z_0-9]+::/, "", params)
   while (match(params, /[A-Za-z_][A-Za-z0-9_]*/)) {
     name = name toupper(substr(params, RSTART, 1)) substr(params, RSTART + 1, RLENGTH - 1)

@@ -44,10 +44,7 @@ fn made(out: &mut impl Write, member: usize, options: u64) -> io::Result<Seat> {
         turn: 1,
         replica: made.replica,
     };
-    let answer = match made.outcome {
-        Ok(()) => 0,
-        Err(refusal) => refusal.number(),
-    };
+    let answer = made.outcome.err().map_or(0, |refusal| refusal.number());
     line(out, member, &seat, answer, 0)?;
     Ok(seat)
 }

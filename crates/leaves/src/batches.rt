@@ -1,14 +1,12 @@
 // Batches, and the table of the highest slots.
-ghost use Rattle.std.specs.Prelude.{◌≤◌};
-
 use crate::say::{Numbers, Shown};
-use batch::{Batch, KeyTable};
+use batch::{Batch, KEYS, KeyTable, TABLE};
 use std::io::Write;
 use std::{array, io};
 
-const EIGHT: [u64; 8] = [1, 2, 3, 4, 5, 6, 7, 8];
+const EIGHT: [u64; KEYS] = [1, 2, 3, 4, 5, 6, 7, 8];
 
-fn of(id: u64, count: usize, keys: [u64; 8]) -> Batch {
+fn of(id: u64, count: usize, keys: [u64; KEYS]) -> Batch {
     Batch { id, count, keys }
 }
 
@@ -47,12 +45,10 @@ fn sames(out: &mut impl Write) -> io::Result<()> {
 }
 
 // A name, the count, and the keys from a place up to another, each with its slot.
-fn table(out: &mut impl Write, name: &str, t: &KeyTable, from: usize, to: usize) -> io::Result<()>
-    requires { to ≤ 256 }
-{
+fn table(out: &mut impl Write, name: &str, t: &KeyTable, from: usize, to: usize) -> io::Result<()> {
     write!(out, "{name} {}", t.count)?;
-    for i in from..to {
-        write!(out, " {} {}", t.keys[i], t.slots[i])?;
+    for (key, slot) in t.keys.iter().zip(&t.slots).take(to).skip(from) {
+        write!(out, " {key} {slot}")?;
     }
     writeln!(out)
 }
@@ -113,7 +109,7 @@ fn fulls(out: &mut impl Write) -> io::Result<()> {
         full(out, all, b)?;
     }
     let t = all.refresh(5, of(2, 2, [255, 256, 0, 0, 0, 0, 0, 0]));
-    table(out, "last", &t, 254, 256)
+    table(out, "last", &t, 254, TABLE)
 }
 
 // The table where it stands: a new key, a smaller slot, a batch, a full table; 7 at a full table for a new and a known key, and with one place
@@ -126,10 +122,10 @@ fn lent(out: &mut impl Write) -> io::Result<()> {
     table(out, "note", &t, 0, 1)?;
     t.note_batch(7, of(1, 2, [10, 20, 0, 0, 0, 0, 0, 0]));
     table(out, "note", &t, 0, 1)?;
-    t.count = 256;
+    t.count = TABLE;
     t.note(99, 1);
     table(out, "note", &t, 0, 1)?;
-    for (count, key) in [(256, 99), (256, 10), (255, 99)] {
+    for (count, key) in [(TABLE, 99), (TABLE, 10), (TABLE - 1, 99)] {
         t.count = count;
         let over = u64::from(t.overfull(of(2, 1, [key, 0, 0, 0, 0, 0, 0, 0])));
         writeln!(out, "over {over}")?;

@@ -5,7 +5,7 @@ use std::io;
 use std::io::Write;
 use tally::merge::{answer_of, merge};
 use tally::open_reads::{no_reads, nothing_known, reply_to};
-use tally::{Best, KeyBest, MergeError, Read, Reads, Tally};
+use tally::{Best, KeyBest, READS, Read, Reads, Tally};
 
 fn of(count: usize, a: Best, b: Best, c: Best) -> Tally {
     let mut t = nothing_known(count);
@@ -21,14 +21,6 @@ fn held(count: usize) -> Tally {
 
 fn told(count: usize) -> Tally {
     of(count, Best::Slot(6), value(5, 51), Best::Slot(7))
-}
-
-// 01's number for a merge that is done (0), or refused.
-fn number_of(refused: Option<MergeError>) -> u64 {
-    match refused {
-        None => 0,
-        Some(error) => error.number(),
-    }
 }
 
 // Nothing known; unequal lengths; nine keys of both, of the held one, of the reply; a conflict at the second of three keys; none; past the
@@ -47,12 +39,8 @@ fn tallies(out: &mut impl Write) -> io::Result<()> {
         (held(0), told(0)),
     ] {
         let m = merge(ours, theirs);
-        writeln!(
-            out,
-            "tally {}{}",
-            number_of(m.outcome.err()),
-            Shown(m.tally)
-        )?;
+        let answer = m.outcome.err().map_or(0, |error| error.number());
+        writeln!(out, "tally {answer}{}", Shown(m.tally))?;
     }
     Ok(())
 }
@@ -75,10 +63,8 @@ fn find(out: &mut impl Write, rs: &Reads, id: u64) -> io::Result<()> {
 }
 
 fn open(out: &mut impl Write, rs: &mut Reads, id: u64, count: usize) -> io::Result<()> {
-    let answer = match rs.open_read(id, count, [11, 12, 13, 14, 15, 16, 17, 18]) {
-        Ok(()) => 0,
-        Err(error) => error.number(),
-    };
+    let opened = rs.open_read(id, count, [11, 12, 13, 14, 15, 16, 17, 18]);
+    let answer = opened.err().map_or(0, |error| error.number());
     writeln!(out, "open {answer} {}", rs.count)
 }
 
@@ -132,7 +118,7 @@ fn full(out: &mut impl Write, rs: &mut Reads) -> io::Result<()> {
 // A count above 16 is no table's: no place of it is in use, and there is no room.
 fn unfit(out: &mut impl Write) -> io::Result<()> {
     let mut rs = no_reads();
-    rs.count = 17;
+    rs.count = READS + 1;
     find(out, &rs, 0)?;
     let mut after = rs;
     open(out, &mut after, 1, 1)?;
@@ -150,7 +136,7 @@ fn reply(
     let o = reply_to(quorum, peer, leads, list, r);
     let closing = o.outcome.ok().flatten();
     let closes = u64::from(closing.is_some());
-    let answer = number_of(o.outcome.err());
+    let answer = o.outcome.err().map_or(0, |error| error.number());
     write!(out, "reply {answer} {closes} {}", closing.unwrap_or(0))?;
     writeln!(out, " {}{}", o.read.acks, Shown(o.read.tally))?;
     Ok(o.read)

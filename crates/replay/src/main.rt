@@ -20,6 +20,8 @@ struct Player<'a, W, E> {
 }
 
 // Plays a block, and writes its lines; the next are at the text's front again. A record begun is short, and prints 13.
+// Kept: each field of `Player` by itself: as the body of `take_block` it was tried, and the proof didn't close: the borrow checker has no rule yet for the
+// room and the text, lent together from behind `self`.
 fn played(
     run: &mut Run,
     block: &[u8],

@@ -38,6 +38,8 @@ fn state(page: &mut Page<'_>, r: &Replica) {
 }
 
 // Plays a record and tells it; the replica after it.
+// Kept: fields of `Teller` by themselves: as a method of it this was tried, and the proof didn't close: the borrow checker has no rule yet for the room and
+// the page, lent together from behind `self`.
 fn told(
     number: u64,
     replica: Replica,
