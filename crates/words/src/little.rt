@@ -18,7 +18,7 @@ pub fn word_at(bytes: &[u8], at: usize) -> u32
 }
 
 // The number of the eight bytes from `at` on; 0 where there are not so many.
-#[tactic(auto, using(crate::specs::LittleLaws::number_past, crate::specs::LittleLaws::eight_read))]
+#[tactic(auto, using(crate::specs::LittleLaws::number_past))]
 pub fn number_at(bytes: &[u8], at: usize) -> u64
     ensures { result ≡ number_at 8 bytes.now at }
 {
