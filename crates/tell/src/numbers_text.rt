@@ -7,8 +7,7 @@ use window::Summary;
 // The numbers, with those of slots, keys and reads; the last, of the strict kind alone, is the leader's trigger.
 pub(crate) fn numbers(page: &mut Page<'_>, r: &Replica) {
     let sc = r.sc;
-    page.byte(b'S');
-    page.numbers(&[
+    let row = [
         sc.id,
         sc.group,
         sc.quorum(),
@@ -27,11 +26,10 @@ pub(crate) fn numbers(page: &mut Page<'_>, r: &Replica) {
         r.window.len as u64,
         r.keys.count as u64,
         r.reads.count as u64,
-    ]);
-    if sc.strict() {
-        page.numbers(&[sc.lead_trigger]);
-    }
-    page.byte(b'\n');
+        sc.lead_trigger,
+    ];
+    let told = if sc.strict() { 19 } else { 18 };
+    page.line(b'S', &row[..told]);
 }
 
 // The summary, asked as a host asks it.

@@ -2,7 +2,7 @@
 use feed::{WriteFailed, write_text};
 use play::put_row;
 use std::io::Write;
-use words::{put_byte, put_number};
+use words::put_byte;
 
 // The lent text, and the place after what was told.
 // Kept: `merges` has one like it; one for both is no plainer: a page of `words` would be public, with a promise for each short method.
@@ -13,27 +13,19 @@ pub(crate) struct Page<'a> {
 }
 
 impl<'a> Page<'a> {
+    // Kept: the text is lent bytes of a fixed size, without a heap, and what `words::put_byte` and `play::put_row` leave in them, here and below, is proved.
     pub(crate) fn byte(&mut self, byte: u8) {
         self.at = put_byte(self.text, self.at, byte);
-    }
-
-    // Each with a blank before it.
-    // Kept: the text is lent bytes of a fixed size, without a heap, and what `words::put_number` and `put_byte` leave in them, here and below, is proved.
-    pub(crate) fn numbers(&mut self, numbers: &[u64]) {
-        for n in numbers {
-            self.byte(b' ');
-            self.at = put_number(self.text, self.at, *n);
-        }
     }
 
     // A letter, then numbers.
     pub(crate) fn line(&mut self, letter: u8, numbers: &[u64]) {
         self.byte(letter);
-        self.numbers(numbers);
-        self.byte(b'\n');
+        self.byte(b' ');
+        self.row(numbers);
     }
 
-    // The line that `replay` prints.
+    // Numbers, a blank between: by itself the line that `replay` prints.
     pub(crate) fn row(&mut self, row: &[u64]) {
         self.at = put_row(self.text, self.at, row);
     }

@@ -5,54 +5,63 @@ use slots::{LeaderBook, ReplicaBook, Slot};
 use window::Window;
 
 // Batch id, key count, eight keys.
-fn batch(page: &mut Page<'_>, b: &Batch) {
-    page.numbers(&[b.id, b.count as u64]);
-    page.numbers(&b.keys);
+fn batch_row(b: &Batch) -> [u64; 10] {
+    let mut row = [0; 10];
+    row[..2].copy_from_slice(&[b.id, b.count as u64]);
+    row[2..].copy_from_slice(&b.keys);
+    row
 }
 
 // A leader's bookkeeping: all 0 where it is absent.
-fn leading(page: &mut Page<'_>, b: &LeaderBook) {
+fn leader_row(b: &LeaderBook) -> [u64; 6] {
     if b.present {
-        page.numbers(&[
+        [
             1,
             b.trigger,
             b.endprep,
             b.prepare_acks,
             b.prepare_max_bal,
             b.accept_acks,
-        ]);
+        ]
     } else {
-        page.numbers(&[0; 6]);
+        [0; 6]
     }
 }
 
-fn following(page: &mut Page<'_>, b: &ReplicaBook) {
+fn replica_row(b: &ReplicaBook) -> [u64; 4] {
     if b.present {
-        page.numbers(&[1, b.source, b.trigger, b.endprep]);
+        [1, b.source, b.trigger, b.endprep]
     } else {
-        page.numbers(&[0; 4]);
+        [0; 4]
     }
 }
 
 // The last number, of the strict kind alone, is the members noted.
 fn line(page: &mut Page<'_>, strict: bool, slot: u64, s: &Slot) {
-    page.byte(b'I');
-    page.numbers(&[
+    let head = [
         slot,
         s.ballot,
         s.status,
         u64::from(s.external),
         s.wal_offset,
-    ]);
-    batch(page, &s.batch);
-    page.numbers(&[s.vote.ballot]);
-    batch(page, &s.vote.batch);
-    leading(page, &s.leader);
-    following(page, &s.replica);
-    if strict {
-        page.numbers(&[s.leader.notes]);
+    ];
+    let (batch, voted) = (batch_row(&s.batch), batch_row(&s.vote.batch));
+    let (leader, replica) = (leader_row(&s.leader), replica_row(&s.replica));
+    let (vote, notes) = ([s.vote.ballot], [s.leader.notes]);
+    let parts = head
+        .iter()
+        .chain(&batch)
+        .chain(&vote)
+        .chain(&voted)
+        .chain(&leader)
+        .chain(&replica)
+        .chain(&notes);
+    let mut row = [0; 37];
+    for (place, n) in row.iter_mut().zip(parts) {
+        *place = *n;
     }
-    page.byte(b'\n');
+    let told = if strict { 37 } else { 36 };
+    page.line(b'I', &row[..told]);
 }
 
 pub(crate) fn slots(page: &mut Page<'_>, strict: bool, start: u64, w: &Window) {
