@@ -3,7 +3,7 @@
 # trait and what the trait is of, as in KindTryFromU64::try_from. given is 1 where the promise gives the whole outcome by equations; wrong is what is wrong
 # with it; a trait's function without a body, which says what who implements the trait owes, is told only where something is wrong with it. The outcome is the result and
 # what each `&mut` holds after the call. The promise of an `impl` is its own `ensures`, or the ghost member by which the trait says what comes out (`eq`,
-# `cmp`, `from_gives` ..); an `impl` of a trait of the same file has the trait's, and one of Display, Debug or Error none. What stands under `#[test]` or
+# `cmp`, `from_gives`, or `output`, the bytes that are printed); an `impl` of a trait of the same file has the trait's, and one of Debug or Error none. What stands under `#[test]` or
 # `#[cfg(test)]` no host can reach: it is passed over.
 
 # comments left out, literals emptied; a lifetime and a prime stay
@@ -339,7 +339,7 @@ END {
       next_type = type_of(s)
       between = trait_of(s)
       if (between != "") {
-        next_members = program || trait in own || trait ~ /^(Display|Debug|Error)$/ ? "" : "impl"
+        next_members = program || trait in own || trait ~ /^(Debug|Error)$/ ? "" : "impl"
         sub(/::$/, between "::", next_type)
       }
     } else if (word == "pub" && match(s, /^[ \n]+(unsafe[ \n]+)?trait[ \n]+[A-Za-z_0-9]+/)) {
@@ -351,7 +351,10 @@ END {
     else if (word == "ghost" && members[depth] != "") {
       match(s, /[A-Za-z_0-9]+/)
       word = substr(s, RSTART, RLENGTH)
-      if (word ~ /^(eq|cmp|partial_cmp|.*_gives)$/) told[depth] = word == "eq" ? "eq self other ≡ result" : substr(s, index(s, "{") + 1, closes(s, index(s, "{")) - index(s, "{") - 1)
+      if (word ~ /^(eq|cmp|partial_cmp|output|.*_gives)$/) told[depth] = substr(s, index(s, "{") + 1, closes(s, index(s, "{")) - index(s, "{") - 1)
+      if (word == "eq") told[depth] = "eq self other ≡ result"
+      # the bytes that are written, where it gives any
+      if (word == "output") told[depth] = told[depth] ~ /[^A-Za-z0-9_]Some[ \n(]/ ? "output self ≡ result" : "⊤"
       s = substr(s, closes(s, index(s, "{")) + 1)
       word = "}"
     } else if (word == "fn" && members[depth] != "") s = public(" fn" s, told[depth], members[depth])

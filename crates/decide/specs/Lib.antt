@@ -9,3 +9,4 @@ pub mod NumberWays
 pub mod ReplyWays
 pub mod Laws
 pub mod Majority
+pub mod Texts

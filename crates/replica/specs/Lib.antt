@@ -27,3 +27,4 @@ pub mod Replying
 pub mod ReplyLaws
 pub mod CompletionFits
 pub mod CompletionLaws
+pub mod Texts

@@ -1,9 +1,10 @@
 // What a call answers: a refusal's number, what it means in a few words, and whose refusal of a crate below it is; and what is handed back, as numbers.
-ghost use Rattle.std.specs.Prelude.{◌≡◌};
+ghost use Rattle.std.specs.Prelude.{◌≡◌, Some};
 ghost use Rattle.tally.specs.Merge.{error_number};
 ghost use Rattle.tally.specs.Open.{open_number};
 ghost use Rattle.decide.specs.Decide as deciding;
 ghost use Rattle.replica.specs.Seen.{refusal_number, answer_number, action_count};
+ghost use Rattle.replica.specs.Texts.{refusal_text};
 
 use super::{Handled, Refusal};
 use std::fmt;
@@ -54,6 +55,8 @@ impl Handled {
 }
 
 impl fmt::Display for Refusal {
+    ghost output = { λ refusal. Some (refusal_text refusal) };
+
     fn fmt<W: fmt::Write>(&self, f: &mut fmt::Formatter<W>) -> fmt::Result {
         f.write_str(match self {
             Refusal::Unready => "the action room is too short, or the record unfit",

@@ -8,3 +8,4 @@ pub mod Laws
 pub mod AnyOrder
 pub mod ReadLaws
 pub mod ReadOrder
+pub mod Texts

@@ -30,6 +30,11 @@ pub enum Best {
 
 // 01's three numbers: tag, slot and value.
 impl fmt::Display for Best {
+    ghost use Rattle.std.specs.Prelude.{Some};
+    ghost use Rattle.tally.specs.Texts.{best_text};
+
+    ghost output = { λ best. Some (best_text best) };
+
     fn fmt<W: fmt::Write>(&self, f: &mut fmt::Formatter<W>) -> fmt::Result {
         match self {
             Best::Nothing => f.write_str("0 0 0"),

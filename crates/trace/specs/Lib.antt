@@ -2,3 +2,4 @@ pub mod Kinds
 pub mod Records
 pub mod Laws
 pub mod Cases
+pub mod Texts

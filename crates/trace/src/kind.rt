@@ -1,5 +1,7 @@
 // The kinds of record.
+ghost use Rattle.std.specs.Prelude.{Some};
 ghost use Rattle.trace.specs.Kinds.{Decodes};
+ghost use Rattle.trace.specs.Texts.{kind_text, unknown_text};
 
 use std::error::Error;
 use std::fmt;
@@ -50,6 +52,8 @@ impl TryFrom<u64> for Kind {
 }
 
 impl fmt::Display for Kind {
+    ghost output = { λ kind. Some (kind_text kind) };
+
     fn fmt<W: fmt::Write>(&self, f: &mut fmt::Formatter<W>) -> fmt::Result {
         f.write_str(match self {
             Kind::New => "new replica",
@@ -69,6 +73,8 @@ impl fmt::Display for Kind {
 }
 
 impl fmt::Display for UnknownKind {
+    ghost output = { λ e. Some (unknown_text e) };
+
     fn fmt<W: fmt::Write>(&self, f: &mut fmt::Formatter<W>) -> fmt::Result {
         write!(f, "no record has kind {}", self.0)
     }
