@@ -31,18 +31,18 @@ pub(crate) fn one(out: &mut impl Write, set: u64) -> io::Result<()> {
     }
     write!(out, "    {} ", members::count(set))?;
     for n in [1, 3, 5, 7, 9] {
-        write!(out, "{:>4}", verdict(set, n))?;
+        out.write_all(verdict(set, n).as_bytes())?;
     }
     writeln!(out)
 }
 
-// Nothing where a group of n lacks a member of the set.
+// Four places wide; nothing where a group of n lacks a member of the set.
 fn verdict(set: u64, n: u64) -> &'static str {
     if !members::within(set, n) {
-        ""
+        "    "
     } else if members::count(set) < members::quorum(n) {
-        "no"
+        "  no"
     } else {
-        "yes"
+        " yes"
     }
 }

@@ -54,9 +54,9 @@ abbrev pub last_block : List ℕ → List (List ℕ)
 last_block [] = []
 last_block (x ∷ xs) = (x ∷ xs) ∷ []
 
--- what a taker was given where every block was taken: all the bytes that the reader had left, where these are known, each once and in their
+-- what a taker was given where every block was taken: all the bytes that were read, where the reader's are known, each once and in their
 -- order; first blocks of whole records, then what was past the last, if there was any. Where there was room for a record, that was less than a
--- record, and the end of the bytes is the reader's
+-- record, and the end of the bytes is the reader's: nothing is left unread
 pub record Given {T : Type 0} (takes : T → List ℕ → T → Type 0) (old new : Option (List ℕ)) (before after : T) (room : ℕ) : Type 0 where
   pub blocks : List (List ℕ)
   pub rest : List ℕ

@@ -110,9 +110,9 @@ pub fn write_text<W: Write>(
     Ok(())
 }
 
-/// Reads to the end, and gives what comes to the taker: each time the whole records that are there, and at the end the bytes past the last, if
-/// there are any. Stops where a read or the taker fails. A proved loop has to end, and nothing says that the input does: it counts its turns, up
-/// to a number that no run uses up.
+/// Reads to the end, where the bytes have room for a record, and gives what comes to the taker: each time the whole records that are there, and at
+/// the end the bytes past the last, if there are any. Stops where a read or the taker fails. A proved loop has to end, and nothing says that the input
+/// does: it counts its turns, up to a number that no run uses up.
 pub fn each_block<R: Read, T: Taker>(
     reader: &mut R,
     errors: &impl Eprint,

@@ -27,16 +27,18 @@ fn renew(r: Replica, room: &mut [u64], rec: Record) -> Handled
     ensures { Told (renewed r rec) (seen result) room.old room.new }
 {
     let made = Replica::new(rec.peer, rec.sub, rec.slot, rec.trigger);
-    match made.outcome {
-        Ok(()) => Handled {
-            outcome: Ok(0),
-            replica: made.replica,
-        },
-        Err(refusal) => refused(r, refusal),
+    if let Err(refusal) = made.outcome {
+        return refused(r, refusal);
+    }
+    Handled {
+        outcome: Ok(0),
+        replica: made.replica,
     }
 }
 
+// Put into its caller: a replica is 27 KB and goes in and out by value, and by itself this would copy it twice more for each record.
 /// Plays the record that begins at a place of lent bytes.
+#[inline(always)]
 pub fn play_at(r: Replica, room: &mut [u64], bytes: &[u8], at: usize) -> Handled
     ensures { Told (played_at r (length room.old) bytes.now at) (seen result) room.old room.new }
 {

@@ -58,10 +58,10 @@ impl Replica {
         let i = (done.slot - sc.start) as usize;
         let r = self.logged_on(i, done.size);
         let h = r.done_on(room, i, done.slot, done.ballot, done.entry);
-        match h.outcome {
-            Ok(_) => h,
-            Err(refusal) => self.refused(refusal),
+        if let Err(error) = h.outcome {
+            return self.refused(error);
         }
+        h
     }
 
     // The slot's first offset in the log, then the size of the log.

@@ -50,12 +50,13 @@ impl Replica {
         if let Err(refusal) = self.test_ready(room.len()) {
             return self.refused(refusal);
         }
-        match self.reads.open_read(id, count, keys) {
-            Ok(()) => Handled {
-                outcome: Ok(0),
-                replica: self,
-            },
-            Err(error) => self.refused(Refusal::from(error)),
+        let outcome = match self.reads.open_read(id, count, keys) {
+            Ok(()) => Ok(0),
+            Err(error) => Err(Refusal::from(error)),
+        };
+        Handled {
+            outcome,
+            replica: self,
         }
     }
 
@@ -64,27 +65,27 @@ impl Replica {
         requires { RepliedFits self (numbered_reply d) room.old }
         ensures { Told (summed (replied_step self i (numbered_reply d))) (seen result) room.old room.new }
     {
-        let read = d.read;
-        match d.outcome {
+        let outcome = match d.outcome {
             Ok(Some(answers)) => {
-                put_answers(room, self.sc.leader, read, answers);
+                put_answers(room, self.sc.leader, d.read, answers);
                 self.reads = self.reads.close(i);
-                Handled {
-                    outcome: Ok(answers),
-                    replica: self,
-                }
+                Ok(answers)
             }
             Ok(None) => {
-                self.reads = self.reads.put(i, read);
-                self.ignored()
+                self.reads = self.reads.put(i, d.read);
+                Ok(0)
             }
             Err(error) => match error {
                 MergeError::Conflict => {
-                    self.reads = self.reads.put(i, read);
-                    self.refused(Refusal::Conflict)
+                    self.reads = self.reads.put(i, d.read);
+                    Err(Refusal::Conflict)
                 }
-                _ => self.refused(Refusal::from(error)),
+                _ => Err(Refusal::from(error)),
             },
+        };
+        Handled {
+            outcome,
+            replica: self,
         }
     }
 

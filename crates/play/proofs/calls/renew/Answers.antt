@@ -6,10 +6,10 @@ use Rattle.replica.specs.ActingLaws.{kept-Told}
 use Rattle.play.specs.Laws.{renews_not, renews}
 use Rattle.play.proofs.calls.renew.Goals as goal
 
-pub returns-in-Ok : goal.returns-in-Ok
-returns-in-Ok c =
+pub returns : goal.returns
+returns c =
     let a = c.args in
-    kept-Told 0 _ refl (renews a.r a.rec _ c.new-made.ensures (ap answer_number c.in-Ok.is))
+    kept-Told 0 _ refl (renews a.r a.rec _ c.new-made.ensures (ap answer_number c.in_default.is))
 
 pub returns-in-Err : goal.returns-in-Err
 returns-in-Err c =

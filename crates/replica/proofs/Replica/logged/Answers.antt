@@ -58,10 +58,10 @@ returns-in-Err-outcome c =
     let a = c.args in
     let fine = ready_open a.self (length a.room.now) c.in_default.ensures in
     logged_refused a.self _ a.done fine c.if-done-sc.false c.if-end-done.false c.if-done-sc-2.false _ c.logged_on-r.ensures c.done_on-h.ensures _
-    (λ z. refused_some c.in-Err-outcome.refusal (sym (ap answer_number c.in-Err-outcome.is) ∙ z)) (rw c.in-Err-outcome.is (ap seen c.refused-in-Err-outcome.ensures))
+    (λ z. refused_some c.in-Err-outcome.error (sym (ap answer_number c.in-Err-outcome.is) ∙ z)) (rw c.in-Err-outcome.is (ap seen c.refused-in-Err-outcome.ensures))
 
-pub returns-in-Ok : goal.returns-in-Ok
-returns-in-Ok c =
+pub returns : goal.returns
+returns c =
     let a = c.args in
     let fine = ready_open a.self (length a.room.now) c.in_default.ensures in
-    logged_done a.self _ a.done fine c.if-done-sc.false c.if-end-done.false c.if-done-sc-2.false _ c.logged_on-r.ensures c.done_on-h.ensures (ap answer_number c.in-Ok.is)
+    logged_done a.self _ a.done fine c.if-done-sc.false c.if-end-done.false c.if-done-sc-2.false _ c.logged_on-r.ensures c.done_on-h.ensures (ap answer_number c.in_default-outcome.is)

@@ -22,4 +22,4 @@ pub returns-in-Err-open_read : goal.returns-in-Err-open_read
 returns-in-Err-open_read c =
     let a = c.args in
     let e = open_ready a.self _ a.id a.count a.keys _ (ready_open a.self (length a.room.now) c.in_default.ensures) c.in-Err-open_read.ensures in
-    refused_told _ _ c.refused-in-Err-open_read.ensures (rw c.from.ensures e)
+    refused_told _ _ refl (rw c.from.ensures e)
