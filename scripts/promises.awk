@@ -353,8 +353,8 @@ END {
       word = substr(s, RSTART, RLENGTH)
       if (word ~ /^(eq|cmp|partial_cmp|output|.*_gives)$/) told[depth] = substr(s, index(s, "{") + 1, closes(s, index(s, "{")) - index(s, "{") - 1)
       if (word == "eq") told[depth] = "eq self other ≡ result"
-      # the bytes that are written, where it gives any
-      if (word == "output") told[depth] = told[depth] ~ /[^A-Za-z0-9_]Some[ \n(]/ && told[depth] !~ /[^A-Za-z0-9_]None([^A-Za-z0-9_]|$)/ ? "output self ≡ result" : "⊤"
+      # the bytes that are written, where it gives any: a fact of Ok alone, so no equation of the whole outcome
+      if (word == "output") told[depth] = told[depth] ~ /[^A-Za-z0-9_]Some[ \n(]/ && told[depth] !~ /[^A-Za-z0-9_]None([^A-Za-z0-9_]|$)/ ? "OnOk result (Written output)" : "⊤"
       s = substr(s, closes(s, index(s, "{")) + 1)
       word = "}"
     } else if (word == "fn" && members[depth] != "") s = public(" fn" s, told[depth], members[depth])
